@@ -1,0 +1,435 @@
+-- The faults of layers 1 and 2 are real: nothing behind the mark at the place told can mend the text.
+use mathlib.Core.Path.{_≡_, refl, sym, _∙_, ap, subst}
+use mathlib.Core.List.{List, [], _∷_, _++_}
+use mathlib.Core.Bool.{Bool, true, false, cond, _&&_}
+use mathlib.Core.Logic.{_⊎_, inl, inr}
+use Prim.Native.Nat.{ℕ, zero, suc, _+_, _-_, _≤_, _<_, max}
+use native.Mathlib.Nat.{add-zero, zero-add, le-refl}
+use native.Mathlib.Omega.{arith}
+use lib.ListN.{length, getD, take, drop}
+use lib.Dec.{leb}
+use Rattle.std.specs.Reads.{value}
+use Rattle.std.specs.shelf.Lists.{leading}
+use Rattle.std.specs.declared.option.Option.{Option}
+use Rattle.std.specs.declared.option.Option.the-variants.{Some, None}
+use Rattle.std.proofs.shelf.Lists.{append-assoc, length-append, append-nil, take-append-drop, take-at, drop-at, drop-all, append-cancel-left}
+use Rattle.std.proofs.shelf.Tests.{leb-true, leb-false, cases-lt}
+use Rattle.text.specs.Marks.{Mark, sign, word, number, end, bad, isDigit, kind, markOf, next, width, figures, badlyWritten}
+use Rattle.text.specs.declared.Kind.{Kind}
+use Rattle.text.specs.declared.Kind.the-variants.{Single, Letter, Digit, Outside}
+use Rattle.text.specs.Forms.{Form, meets, Got, got, fault, andThen, unwanted, follow, filled}
+use Rattle.text.specs.Document.{Cut, Document, Verb, WellFormed, written, first-line, from, a-cut, line-end, estimates-line, an-order, opening, closing, space, orders-text, verb, numbers}
+use Rattle.text.specs.declared.Order.{Order}
+use Rattle.text.specs.Reading.{cut-of, order-of, verb-of, cuts-from, lines-from, order-from, orders-from, body, document, parsed}
+use Rattle.blank.specs.Table.{Passes, Bad, Worst}
+use Rattle.text.specs.Rows.{rows-of}
+use Rattle.text.specs.Verdicts.{Verdict, accepted, refused, Checked, Concludes, Says}
+use Rattle.text.specs.Promises.{Written-once, Verdict-once, Faults-are-real}
+use Rattle.text.proofs.Marks.{Begins, Stands, next-stands}
+use Rattle.text.proofs.Forms.{Went, went, goes, never-got, follow-sound}
+use Rattle.text.proofs.Cuts.{never}
+use Rattle.text.proofs.Orders.{OrderRead, order-sound, orders-sound, orders-complete}
+use Rattle.text.proofs.Documents.{document-complete}
+use Rattle.text.proofs.Local.{Again, GotAgain, FaultAgain, Local, local-got, local-third, local-same, local-then, local-choice, local-unwanted, follow-local}
+
+apart : {A : Type 0} → _≡_ {A = ℕ} 0 1 → A
+apart z = absurd (omega arith)
+
+-- What has the mark of a byte in hand begins with that byte.
+begins-with : (b : ℕ) (z : List ℕ) → next z ≡ sign b → z ≡ b ∷ drop (width z) z
+begins-with b z e =
+    let P : Mark → Type 0 = λ m. Stands m (width z) z in
+    subst P e (next-stands z) .splits
+
+-- The cut too many, told at its bracket.
+one-too-many : ℕ → List ℕ → Got (List Cut)
+one-too-many p bs = andThen (follow (space ∷ opening ∷ []) p bs) (λ ns q rest. fault 2 4 (q - 1))
+
+local-too-many : Local one-too-many
+unfolding one-too-many
+local-too-many =
+    record {
+      gots =
+          λ p bs a q rest e.
+          let w = went (follow (space ∷ opening ∷ []) p bs) (λ ns q rest. fault 2 4 (q - 1)) a q rest e in
+          never 2 4 (w .place - 1) a q rest (w .second);
+      faults = λ p bs l c q e small. go p bs l c q small (follow (space ∷ opening ∷ []) p bs) refl e;
+    }
+  where
+    k : List ℕ → ℕ → List ℕ → Got (List Cut)
+    k ns q rest = fault 2 4 (q - 1)
+
+    go :
+        (p : ℕ) (bs : List ℕ) (l c q : ℕ) → l ≤ 2 → (x : Got (List ℕ)) → follow (space ∷ opening ∷ []) p bs ≡ x → andThen x k ≡ fault l c q
+        → FaultAgain one-too-many p bs l c q
+    go p bs l c q small (got ns m rest) e h =
+        let f = follow-sound (space ∷ opening ∷ []) p bs ns m rest e in
+        let la : 2 ≡ l = cc in
+        let ca : 4 ≡ c = cc in
+        let qa : m - 1 ≡ q = cc in
+        record {
+          over = 32 ∷ [];
+          left = 40 ∷ rest;
+          is =
+              record {
+                splits = f .took .splits;
+                place = omega (arith, f .took .place, qa);
+                again =
+                    λ z t.
+                    let s = begins-with 40 z t in
+                    ap (λ y. one-too-many p (32 ∷ y)) s
+                    ∙ ap (λ y. fault 2 4 y) (let d : p + 1 + 1 - 1 ≡ q = omega (arith, f .took .place, qa) in d)
+                    ∙ ap (λ y. fault y 4 q) la
+                    ∙ ap (λ y. fault l y q) ca;
+                same = λ z t. ap next (sym (f .took .splits));
+              };
+        }
+    go p bs l c q small (fault i j s) e h =
+        let a : i ≡ l = cc in
+        let b : j ≡ c = cc in
+        let d : s ≡ q = cc in
+        let u =
+        follow-local (space ∷ opening ∷ []) .faults p bs l c q (e ∙ ap (λ z. fault z j s) a ∙ ap (λ z. fault l z s) b ∙ ap (λ z. fault l c z) d) small
+        in
+        record {
+          over = u .over;
+          left = u .left;
+          is =
+              record {
+                splits = u .is .splits;
+                place = u .is .place;
+                again = λ z t. ap (λ x. andThen x k) (u .is .again z t);
+                same = u .is .same;
+              };
+        }
+
+line-end-local : Local (λ p bs. andThen {B = List Cut} (follow line-end p bs) (λ ns q rest. got [] q rest))
+line-end-local = local-then (follow line-end) (λ ns q rest. got [] q rest) (follow-local line-end) (λ ns. local-got [])
+
+cuts-local : (room : ℕ) → Local (cuts-from room)
+unfolding one-too-many
+cuts-local zero =
+    local-same
+    (λ p bs. elim (meets closing (next bs)) [ true ↦ andThen (follow line-end p bs) (λ ns q rest. got [] q rest) | false ↦ one-too-many p bs ])
+    (cuts-from zero)
+    (λ p bs. refl)
+    (local-choice (meets closing) (λ p bs. andThen (follow line-end p bs) (λ ns q rest. got [] q rest)) one-too-many line-end-local local-too-many)
+cuts-local (suc room) =
+    local-same
+    (λ p bs.
+    elim (meets closing (next bs)) [
+      | true ↦ andThen (follow line-end p bs) (λ ns q rest. got [] q rest)
+      | false ↦ andThen (follow a-cut p bs) (λ ns q rest. andThen (cuts-from room q rest) (λ cs q rest. got (cut-of ns ∷ cs) q rest))
+    ])
+    (cuts-from (suc room))
+    (λ p bs. refl)
+    (local-choice (meets closing) (λ p bs. andThen (follow line-end p bs) (λ ns q rest. got [] q rest))
+    (λ p bs. andThen (follow a-cut p bs) (λ ns q rest. andThen (cuts-from room q rest) (λ cs q rest. got (cut-of ns ∷ cs) q rest)))
+    line-end-local
+    (local-then (follow a-cut) (λ ns q rest. andThen (cuts-from room q rest) (λ cs q rest. got (cut-of ns ∷ cs) q rest)) (follow-local a-cut)
+    (λ ns. local-then (cuts-from room) (λ cs q rest. got (cut-of ns ∷ cs) q rest) (cuts-local room) (λ cs. local-got (cut-of ns ∷ cs)))))
+
+lines-local : (k u room : ℕ) → Local (lines-from k u room)
+lines-local zero u room = local-got []
+lines-local (suc k) u room =
+    local-then (follow (from u))
+    (λ ns q rest.
+    andThen (cuts-from room q rest)
+    (λ cs q rest. andThen (lines-from k (suc u) (room - length cs) q rest) (λ css q rest. got (cs ∷ css) q rest)))
+    (follow-local (from u))
+    (λ ns.
+    local-then (cuts-from room) (λ cs q rest. andThen (lines-from k (suc u) (room - length cs) q rest) (λ css q rest. got (cs ∷ css) q rest))
+    (cuts-local room)
+    (λ cs.
+    local-then (lines-from k (suc u) (room - length cs)) (λ css q rest. got (cs ∷ css) q rest) (lines-local k (suc u) (room - length cs))
+    (λ css. local-got (cs ∷ css))))
+
+-- The order that a mark names, or none.
+pick : Option Verb → ℕ → List ℕ → Got Order
+pick x p bs = elim x [ Some v ↦ andThen (follow (an-order v) p bs) (λ ns q rest. got (order-of v ns) q rest) | None ↦ unwanted (next bs) p ]
+
+pick-local : (x : Option Verb) → Local (pick x)
+unfolding pick
+pick-local (Some v) = local-then (follow (an-order v)) (λ ns q rest. got (order-of v ns) q rest) (follow-local (an-order v)) (λ ns. local-got (order-of v ns))
+pick-local None = local-unwanted
+
+order-local : Local order-from
+unfolding pick
+order-local =
+    record {
+      gots =
+          λ p bs o q rest e.
+          let u = pick-local (verb-of (next bs)) .gots p bs o q rest e in
+          record { over = u .over; is = carry p bs (u .over) rest q (λ z. got o q z) (u .is) };
+      faults =
+          λ p bs l c q e small.
+          let u = pick-local (verb-of (next bs)) .faults p bs l c q e small in
+          record { over = u .over; left = u .left; is = carry p bs (u .over) (u .left) q (λ z. fault l c q) (u .is) };
+    }
+  where
+    carry :
+        (p : ℕ) (bs x y : List ℕ) (q : ℕ) (out : List ℕ → Got Order) → Again (pick (verb-of (next bs))) p bs x y q out → Again order-from p bs x y q out
+    carry p bs x y q out h =
+        record {
+          splits = h .splits;
+          place = h .place;
+          again = λ z k. ap (λ v. pick v p (x ++ z)) (ap verb-of (h .same z k)) ∙ h .again z k;
+          same = h .same;
+        }
+
+-- The orders.
+at-end : Mark → Bool
+at-end m = elim m [ sign b ↦ false | word w ↦ false | number n ↦ false | end ↦ true | bad c ↦ false ]
+
+not-at-end : (b : ℕ) (bs : List ℕ) → at-end (next (b ∷ bs)) ≡ false
+unfolding at-end
+not-at-end b bs = go (kind b)
+  where
+    run : (t : Bool) (n : ℕ) → at-end (cond t (bad 2) (number n)) ≡ false
+    run true n = refl
+    run false n = refl
+
+    go : (k : Kind) → at-end (markOf k b (b ∷ bs)) ≡ false
+    go Single = refl
+    go Letter = refl
+    go Digit = let ds = take (leading isDigit (b ∷ bs)) (b ∷ bs) in run (badlyWritten ds) (value 10 ds)
+    go Outside = refl
+
+one-order : (ℕ → List ℕ → Got (List Order)) → ℕ → List ℕ → Got (List Order)
+one-order more p bs =
+    andThen (follow (opening ∷ []) p bs)
+    (λ ns q rest. andThen (order-from q rest) (λ o q rest. andThen (more q rest) (λ os q rest. got (o ∷ os) q rest)))
+
+one-order-local : (more : ℕ → List ℕ → Got (List Order)) → Local more → Local (one-order more)
+unfolding one-order
+one-order-local more h =
+    local-then (follow (opening ∷ [])) (λ ns q rest. andThen (order-from q rest) (λ o q rest. andThen (more q rest) (λ os q rest. got (o ∷ os) q rest)))
+    (follow-local (opening ∷ []))
+    (λ ns.
+    local-then order-from (λ o q rest. andThen (more q rest) (λ os q rest. got (o ∷ os) q rest)) order-local
+    (λ o. local-then more (λ os q rest. got (o ∷ os) q rest) h (λ os. local-got (o ∷ os))))
+
+orders-local : (turns : ℕ) → Local (orders-from turns)
+unfolding at-end one-order
+orders-local zero = local-same (λ p bs. got [] p bs) (orders-from zero) same (local-got [])
+  where
+    same : (p : ℕ) (bs : List ℕ) → got [] p bs ≡ orders-from zero p bs
+    same p [] = refl
+    same p (b ∷ bs) = refl
+orders-local (suc turns) =
+    local-same (λ p bs. elim (at-end (next bs)) [ true ↦ got [] p bs | false ↦ one-order (orders-from turns) p bs ]) (orders-from (suc turns)) same
+    (local-choice at-end (λ p bs. got [] p bs) (one-order (orders-from turns)) (local-got []) (one-order-local (orders-from turns) (orders-local turns)))
+  where
+    turn : Bool → ℕ → List ℕ → Got (List Order)
+    turn t p bs = elim t [ true ↦ got [] p bs | false ↦ one-order (orders-from turns) p bs ]
+
+    same : (p : ℕ) (bs : List ℕ) → turn (at-end (next bs)) p bs ≡ orders-from (suc turns) p bs
+    same p [] = refl
+    same p (b ∷ bs) = ap (λ t. turn t p (b ∷ bs)) (not-at-end b bs)
+
+-- Turns enough are as good as any others.
+turns-same : (t u p : ℕ) (bs : List ℕ) → length bs ≤ t → length bs ≤ u → orders-from t p bs ≡ orders-from u p bs
+turns-same t u p [] h k = refl
+turns-same zero u p (b ∷ bs) h k = absurd (omega arith)
+turns-same (suc t) zero p (b ∷ bs) h k = absurd (omega arith)
+turns-same (suc t) (suc u) p (b ∷ bs) h k = one (follow (opening ∷ []) p (b ∷ bs)) refl (turns-same t u)
+  where
+    first : ℕ → List ℕ → ℕ → List ℕ → Got (List Order)
+    first t ns q rest = andThen (order-from q rest) (λ o q rest. andThen (orders-from t q rest) (λ os q rest. got (o ∷ os) q rest))
+
+    then : ℕ → Order → ℕ → List ℕ → Got (List Order)
+    then t o q rest = andThen (orders-from t q rest) (λ os q rest. got (o ∷ os) q rest)
+
+    two :
+        (q : ℕ) (rest : List ℕ) → length (b ∷ bs) ≡ 1 + length rest → (g : Got Order) → order-from q rest ≡ g
+        → ((p : ℕ) (bs : List ℕ) → length bs ≤ t → length bs ≤ u → orders-from t p bs ≡ orders-from u p bs) → andThen g (then t) ≡ andThen g (then u)
+    two q rest n (got o m left) e ih =
+        let s = order-sound q rest o m left e in
+        let x = length-append (filled (an-order (verb o)) (numbers o)) left in
+        let y = ap length (s .took .splits) in
+        ap (λ g. andThen g (λ os q rest. got (o ∷ os) q rest)) (ih m left (omega (arith, x, y, n, h)) (omega (arith, x, y, n, k)))
+    two q rest n (fault i j s) e ih = refl
+
+    one :
+        (g : Got (List ℕ)) → follow (opening ∷ []) p (b ∷ bs) ≡ g
+        → ((p : ℕ) (bs : List ℕ) → length bs ≤ t → length bs ≤ u → orders-from t p bs ≡ orders-from u p bs) → andThen g (first t) ≡ andThen g (first u)
+    one (got ns q rest) e ih =
+        let f = follow-sound (opening ∷ []) p (b ∷ bs) ns q rest e in
+        two q rest (omega (arith, ap length (f .took .splits))) (order-from q rest) refl ih
+    one (fault i j s) e ih = refl
+
+all-orders : ℕ → List ℕ → Got (List Order)
+all-orders p bs = orders-from (length bs) p bs
+
+-- Two fronts of one list that are equally long are equal.
+same-front : (x y u v : List ℕ) → x ++ y ≡ u ++ v → length x ≡ length u → (x ≡ u) × (y ≡ v)
+same-front x y u v e l =
+    let front : x ≡ u = sym (take-at x y (length x) refl) ∙ ap (take (length x)) e ∙ take-at u v (length x) (sym l) in
+    (front, append-cancel-left u y v (ap (λ z. z ++ y) (sym front) ∙ e))
+
+all-orders-local : Local all-orders
+unfolding all-orders
+all-orders-local =
+    record {
+      gots =
+          λ p bs os q rest e.
+          let s = orders-sound (length bs) p bs os q rest (le-refl (length bs)) e in
+          record {
+            over = orders-text os;
+            is =
+                record {
+                  splits = s .took .splits;
+                  place = s .took .place;
+                  again =
+                      λ z h.
+                      let none : z ≡ [] = empty z (h ∙ ap next (s .done)) in
+                      ap (λ y. all-orders p (orders-text os ++ y)) none ∙ ap (all-orders p) (append-nil (orders-text os))
+                      ∙ orders-complete os (length (orders-text os)) p q (s .short) (le-refl (length (orders-text os))) (s .took .place)
+                      ∙ ap (λ y. got os q y) (sym none);
+                  same =
+                      λ z h.
+                      let none : z ≡ [] = empty z (h ∙ ap next (s .done)) in
+                      ap (λ y. next (orders-text os ++ y)) (none ∙ sym (s .done)) ∙ ap next (sym (s .took .splits));
+                };
+          };
+      faults =
+          λ p bs l c q e small.
+          let u = orders-local (length bs) .faults p bs l c q e small in
+          record {
+            over = u .over;
+            left = u .left;
+            is =
+                record {
+                  splits = u .is .splits;
+                  place = u .is .place;
+                  again = λ z h. retry p bs l c q e small (u .over) (u .left) (u .is .splits) (u .is .place) z h;
+                  same = u .is .same;
+                };
+          };
+    }
+  where
+    empty : (z : List ℕ) → next z ≡ end → z ≡ []
+    empty z h =
+        let P : Mark → Type 0 = λ m. Stands m (width z) z in
+        subst P h (next-stands z)
+
+    retry :
+        (p : ℕ) (bs : List ℕ) (l c q : ℕ) → orders-from (length bs) p bs ≡ fault l c q → l ≤ 2 → (x y : List ℕ) → bs ≡ x ++ y → q ≡ p + length x
+        → (z : List ℕ) → next z ≡ next y → orders-from (length (x ++ z)) p (x ++ z) ≡ fault l c q
+    retry p bs l c q e small x y s at z h =
+        let most : ℕ = length bs + length (x ++ z) in
+        let u =
+        orders-local most .faults p bs l c q (turns-same most (length bs) p bs (omega arith) (omega arith) ∙ e) small
+        in
+        let same = same-front (u .over) (u .left) x y (sym (u .is .splits) ∙ s) (omega (arith, u .is .place, at)) in
+        turns-same (length (x ++ z)) most p (x ++ z) (omega arith) (omega arith) ∙ ap (λ w. orders-from most p (w ++ z)) (sym (same .0))
+        ∙ u .is .again z (h ∙ ap next (sym (same .1)))
+
+abbrev doc : ℕ → ℕ → ℕ → List (List Cut) → List ℕ → List Order → Document
+doc n s g css hs os = record { states = n; start = s; goal = g; cuts = css; estimates = hs; orders = os }
+
+body-local : (n s g : ℕ) → Local (body n s g)
+unfolding all-orders
+body-local n s g =
+    local-then (lines-from n 0 8192)
+    (λ css q rest. andThen (follow (estimates-line n) q rest) (λ hs q rest. andThen (all-orders q rest) (λ os q rest. got (doc n s g css hs os) q rest)))
+    (lines-local n 0 8192)
+    (λ css.
+    local-then (follow (estimates-line n)) (λ hs q rest. andThen (all-orders q rest) (λ os q rest. got (doc n s g css hs os) q rest))
+    (follow-local (estimates-line n))
+    (λ hs. local-then all-orders (λ os q rest. got (doc n s g css hs os) q rest) all-orders-local (λ os. local-got (doc n s g css hs os))))
+
+after-head : List ℕ → ℕ → List ℕ → Got Document
+after-head ns q rest =
+    elim (leb 2 (getD ns 0 0) && leb (getD ns 0 0) 1024) [ true ↦ body (getD ns 0 0) (getD ns 1 0) (getD ns 2 0) q rest | false ↦ fault 3 5 0 ]
+
+after-head-local : (ns : List ℕ) → Local (after-head ns)
+unfolding after-head
+after-head-local ns = go (leb 2 (getD ns 0 0) && leb (getD ns 0 0) 1024)
+  where
+    go : (t : Bool) → Local (λ q rest. elim t [ true ↦ body (getD ns 0 0) (getD ns 1 0) (getD ns 2 0) q rest | false ↦ fault 3 5 0 ])
+    go true = body-local (getD ns 0 0) (getD ns 1 0) (getD ns 2 0)
+    go false = local-third
+
+document-local : Local (λ p text. andThen (follow first-line p text) after-head)
+document-local = local-then (follow first-line) after-head (follow-local first-line) after-head-local
+
+-- A fault of the document stays where the same mark stands behind the same bytes.
+pub document-fault :
+    (text other : List ℕ) (l c p : ℕ)
+    → document text ≡ fault l c p → l ≤ 2 → take p other ≡ take p text → next (drop p other) ≡ next (drop p text) → document other ≡ fault l c p
+unfolding after-head
+document-fault text other l c p e small front mark =
+    let u = document-local .faults 0 text l c p e small in
+    let x = u .over in
+    let y = u .left in
+    let long : length x ≡ p = omega (arith, u .is .place) in
+    let before : take p other ≡ x = front ∙ ap (take p) (u .is .splits) ∙ take-at x y p long in
+    let behind : drop p text ≡ y = ap (drop p) (u .is .splits) ∙ drop-at x y p long in
+    let whole : other ≡ x ++ drop p other = sym (take-append-drop p other) ∙ ap (λ z. z ++ drop p other) before in
+    ap document whole ∙ u .is .again (drop p other) (mark ∙ ap next behind)
+
+not-accepted : {A : Type 0} (l c p : ℕ) (d : Document) → accepted d ≡ refused l c p → A
+not-accepted l c p d e = let z : _≡_ {A = ℕ} 0 1 = cc in apart z
+
+pub faults-are-real : Faults-are-real
+faults-are-real text other l c p says small front mark d h = over (leb (length text) 60000) refl says
+  where
+    turn : List ℕ → Bool → Got Document
+    turn t b = elim b [ true ↦ document t | false ↦ fault 2 4 60000 ]
+
+    ends : (g : Got Document) → turn other true ≡ g → (i j k : ℕ) → g ≡ fault i j k → (b : Bool) → Concludes (turn other b) (accepted d) → ⊥
+    ends g e i j k f true h = let P : Got Document → Type 0 = λ g. Concludes g (accepted d) in not-accepted i j k d (subst P (e ∙ f) h)
+    ends g e i j k f false h = not-accepted 2 4 60000 d h
+
+    inner : (g : Got Document) → document text ≡ g → Concludes g (refused l c p) → ⊥
+    inner (got x q bs) e s = omega (arith, s .0, small)
+    inner (fault i j k) e s =
+        let a : l ≡ i = cc in
+        let b : c ≡ j = cc in
+        let m : p ≡ k = cc in
+        let same : document text ≡ fault l c p = e ∙ ap (λ z. fault z j k) (sym a) ∙ ap (λ z. fault l z k) (sym b) ∙ ap (λ z. fault l c z) (sym m) in
+        ends (document other) refl l c p (document-fault text other l c p same small front mark) (leb (length other) 60000) h
+
+    empty : (z : List ℕ) → next z ≡ end → z ≡ []
+    empty z h =
+        let P : Mark → Type 0 = λ m. Stands m (width z) z in
+        subst P h (next-stands z)
+
+    long : (b : Bool) → leb (length other) 60000 ≡ b → 60000 < length text → p ≡ 60000 → Concludes (turn other b) (accepted d) → ⊥
+    long true t n e h =
+        let short : length other ≤ p = omega (arith, leb-true (length other) 60000 t, e) in
+        let none : drop p text ≡ [] = empty (drop p text) (sym mark ∙ ap next (drop-all p other short)) in
+        omega (arith, ap length (take-append-drop p text), length-append (take p text) (drop p text), ap length none, ap length front, n, e, shorter p other)
+      where
+        shorter : (n : ℕ) (xs : List ℕ) → length (take n xs) ≤ length xs
+        shorter zero xs = omega arith
+        shorter (suc n) [] = omega arith
+        shorter (suc n) (x ∷ xs) = omega (arith, shorter n xs)
+    long false t n e h = not-accepted 2 4 60000 d h
+
+    over : (b : Bool) → leb (length text) 60000 ≡ b → Concludes (turn text b) (refused l c p) → ⊥
+    over true t s = inner (document text) refl s
+    over false t s = let e : p ≡ 60000 = cc in long (leb (length other) 60000) refl (leb-false (length text) 60000 t) e h
+
+pub written-once : Written-once
+written-once d e h k same =
+    let g : got d (length (written d)) [] ≡ got e (length (written e)) [] = sym (document-complete d h) ∙ ap document same ∙ document-complete e k in
+    cc
+
+pub verdict-once : Verdict-once
+verdict-once text v w = go (parsed text) v w
+  where
+    go : (g : Got Document) (v w : Verdict) → Concludes g v → Concludes g w → v ≡ w
+    go (got d p bs) (accepted a) (accepted b) h k = ap accepted (h .0 ∙ sym (k .0))
+    go (got d p bs) (accepted a) (refused l c e) h k = absurd (h .1 c e (k .1 .is))
+    go (got d p bs) (refused l c e) (accepted b) h k = absurd (k .1 c e (h .1 .is))
+    go (got d p bs) (refused l c e) (refused i j f) h k =
+        let order : (c ≡ j) × (e ≡ f) =
+        elim (h .1 .least j f (k .1 .is)) [
+          | inl x ↦ elim (k .1 .least c e (h .1 .is)) [ inl y ↦ absurd (omega arith) | inr y ↦ absurd (omega arith) ]
+          | inr x ↦ elim (k .1 .least c e (h .1 .is)) [ inl y ↦ absurd (omega arith) | inr y ↦ (x .0, omega arith) ]
+        ]
+        in
+        ap (λ z. refused z c e) (h .0 ∙ sym (k .0)) ∙ ap (λ z. refused i z e) (order .0) ∙ ap (λ z. refused i j z) (order .1)
+    go (fault l c p) v w h k = h ∙ sym k

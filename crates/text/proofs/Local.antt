@@ -1,0 +1,419 @@
+-- What a reading comes to hangs on nothing behind the mark that it stopped at.
+use mathlib.Core.Path.{_≡_, refl, sym, _∙_, ap, subst}
+use mathlib.Core.List.{List, [], _∷_, _++_}
+use mathlib.Core.Bool.{Bool, true, false, cond, _&&_}
+use Prim.Native.Nat.{ℕ, zero, suc, _+_, _-_, _≤_, _<_}
+use native.Mathlib.Nat.{add-zero, add-assoc}
+use native.Mathlib.Omega.{arith}
+use native.Mathlib.Numerals.{one-add}
+use lib.ListN.{length, getD, take, drop}
+use lib.Dec.{eqb}
+use Rattle.std.specs.shelf.Lists.{leading}
+use Rattle.std.specs.declared.option.Option.{Option}
+use Rattle.std.specs.declared.option.Option.the-variants.{Some, None}
+use Rattle.std.proofs.shelf.Lists.{append-assoc, length-append, append-nil, take-append-drop, length-take-le, drop-at}
+use Rattle.std.proofs.shelf.Sums.{leading-le-length}
+use Rattle.std.proofs.shelf.Ways.{tells}
+use Rattle.text.specs.Marks.{Mark, sign, word, number, end, bad, isLetter, isDigit, isSingle, kind, markOf, widthOf, next, width, figures, badlyWritten}
+use Rattle.text.specs.declared.Kind.{Kind}
+use Rattle.text.specs.declared.Kind.the-variants.{Single, Letter, Digit, Outside}
+use Rattle.text.specs.Forms.{Want, Form, meets, keeps, Got, got, fault, andThen, unwanted, follow}
+use Rattle.text.proofs.Runs.{Every, Stops, front-passes, leading-some, kind-letter, kind-digit, kind-single, letter-kind, digit-kind}
+use Rattle.text.proofs.Marks.{Stands, next-stands, Shows, shows-word, shows-figures}
+use Rattle.text.proofs.Forms.{Went, went, goes, never-got}
+use Rattle.text.proofs.Cuts.{never}
+
+-- The mark in hand tells whether a letter, or a digit, stands first.
+firstly : (ℕ → Bool) → List ℕ → Bool
+firstly p [] = false
+firstly p (x ∷ xs) = p x
+
+is-word : Mark → Bool
+is-word m = elim m [ sign b ↦ false | word w ↦ true | number n ↦ false | end ↦ false | bad c ↦ false ]
+
+is-figure : Mark → Bool
+is-figure m = elim m [ sign b ↦ false | word w ↦ false | number n ↦ true | end ↦ false | bad c ↦ eqb c 2 ]
+
+figures-word : (ds : List ℕ) → is-word (figures ds) ≡ false
+unfolding is-word
+figures-word ds = go (badlyWritten ds) (number _) refl
+  where
+    go : (t : Bool) (m : Mark) → is-word m ≡ false → is-word (cond t (bad 2) m) ≡ false
+    go true m e = refl
+    go false m e = e
+
+figures-figure : (ds : List ℕ) → is-figure (figures ds) ≡ true
+unfolding is-figure
+figures-figure ds = go (badlyWritten ds) (number _) refl
+  where
+    go : (t : Bool) (m : Mark) → is-figure m ≡ true → is-figure (cond t (bad 2) m) ≡ true
+    go true m e = refl
+    go false m e = e
+
+not-letter : (b : ℕ) (k : Kind) → kind b ≡ k → (k ≡ Letter → ⊥) → isLetter b ≡ false
+not-letter b k e h = go (isLetter b) refl
+  where
+    go : (t : Bool) → isLetter b ≡ t → t ≡ false
+    go true l = absurd (h (sym e ∙ kind-letter b l))
+    go false l = refl
+
+not-digit : (b : ℕ) (k : Kind) → kind b ≡ k → (k ≡ Digit → ⊥) → isDigit b ≡ false
+not-digit b k e h = go (isDigit b) refl
+  where
+    go : (t : Bool) → isDigit b ≡ t → t ≡ false
+    go true l = absurd (h (sym e ∙ kind-digit b l))
+    go false l = refl
+
+apart : {A : Type 0} → _≡_ {A = ℕ} 0 1 → A
+apart z = absurd (omega arith)
+
+word-first : (bs : List ℕ) → is-word (next bs) ≡ firstly isLetter bs
+unfolding is-word firstly
+word-first [] = refl
+word-first (b ∷ bs) = go (kind b) refl
+  where
+    go : (k : Kind) → kind b ≡ k → is-word (markOf k b (b ∷ bs)) ≡ isLetter b
+    go Single e = sym (not-letter b Single e (λ z. let w : _≡_ {A = ℕ} 0 1 = cc in apart w))
+    go Letter e = sym (letter-kind b e)
+    go Digit e = figures-word (take (leading isDigit (b ∷ bs)) (b ∷ bs)) ∙ sym (not-letter b Digit e (λ z. let w : _≡_ {A = ℕ} 0 1 = cc in apart w))
+    go Outside e = sym (not-letter b Outside e (λ z. let w : _≡_ {A = ℕ} 0 1 = cc in apart w))
+
+figure-first : (bs : List ℕ) → is-figure (next bs) ≡ firstly isDigit bs
+unfolding is-figure firstly
+figure-first [] = refl
+figure-first (b ∷ bs) = go (kind b) refl
+  where
+    go : (k : Kind) → kind b ≡ k → is-figure (markOf k b (b ∷ bs)) ≡ isDigit b
+    go Single e = sym (not-digit b Single e (λ z. let w : _≡_ {A = ℕ} 0 1 = cc in apart w))
+    go Letter e = sym (not-digit b Letter e (λ z. let w : _≡_ {A = ℕ} 0 1 = cc in apart w))
+    go Digit e = figures-figure (take (leading isDigit (b ∷ bs)) (b ∷ bs)) ∙ sym (digit-kind b e)
+    go Outside e = sym (not-digit b Outside e (λ z. let w : _≡_ {A = ℕ} 0 1 = cc in apart w))
+
+to-stops : (p : ℕ → Bool) (bs : List ℕ) → firstly p bs ≡ false → Stops p bs
+unfolding firstly
+to-stops p [] h = tt
+to-stops p (x ∷ xs) h = h
+
+from-stops : (p : ℕ → Bool) (bs : List ℕ) → Stops p bs → firstly p bs ≡ false
+unfolding firstly
+from-stops p [] h = refl
+from-stops p (x ∷ xs) h = h
+
+-- Behind the longest run stands something else.
+leading-stops : (p : ℕ → Bool) (bs : List ℕ) → Stops p (drop (leading p bs) bs)
+leading-stops p [] = tt
+leading-stops p (x ∷ xs) = go (p x) refl (leading-stops p xs)
+  where
+    go : (t : Bool) → p x ≡ t → Stops p (drop (leading p xs) xs) → Stops p (drop (cond t (1 + leading p xs) 0) (x ∷ xs))
+    go true e h = rw one-add h
+    go false e h = e
+
+-- A mark with the same mark behind it stays itself.
+record Stays (bs z : List ℕ) : Type 0 where
+  is : next (take (width bs) bs ++ z) ≡ next bs
+  wide : width (take (width bs) bs ++ z) ≡ width bs
+
+ends-empty : (z : List ℕ) (m : Mark) → next z ≡ m → m ≡ end → z ≡ []
+ends-empty z m e h =
+    let P : Mark → Type 0 = λ m. Stands m (width z) z in
+    subst P (e ∙ h) (next-stands z)
+
+width-fits : (bs : List ℕ) → width bs ≤ length bs
+width-fits [] = omega arith
+width-fits (b ∷ bs) = go (kind b)
+  where
+    go : (k : Kind) → widthOf k (b ∷ bs) ≤ length (b ∷ bs)
+    go Single = omega arith
+    go Letter = leading-le-length isLetter (b ∷ bs)
+    go Digit = leading-le-length isDigit (b ∷ bs)
+    go Outside = omega arith
+
+stays : (bs z : List ℕ) → next z ≡ next (drop (width bs) bs) → Stays bs z
+stays [] z h = let e = ends-empty z end h refl in record { is = h; wide = ap width e }
+stays (b ∷ bs) z h = let t = go (kind b) refl h in record { is = t .is; wide = t .wide }
+  where
+    go : (k : Kind) → kind b ≡ k → next z ≡ next (drop (widthOf k (b ∷ bs)) (b ∷ bs)) → record { is : next (take (widthOf k (b ∷ bs)) (b ∷ bs) ++ z) ≡ markOf k b (b ∷ bs); wide : width (take (widthOf k (b ∷ bs)) (b ∷ bs) ++ z) ≡ widthOf k (b ∷ bs) }
+    go Single e h = record { is = rw e refl; wide = rw e refl }
+    go Letter e h =
+        let n = leading isLetter (b ∷ bs) in
+        let long = length-take-le n (b ∷ bs) (leading-le-length isLetter (b ∷ bs)) in
+        let some : 0 < n = leading-some isLetter b bs (letter-kind b e) in
+        let first : firstly isLetter z ≡ false =
+        sym (word-first z) ∙ ap is-word h ∙ word-first (drop n (b ∷ bs)) ∙ from-stops isLetter (drop n (b ∷ bs)) (leading-stops isLetter (b ∷ bs))
+        in
+        let t = shows-word (take n (b ∷ bs)) z (omega (arith, long)) (front-passes isLetter (b ∷ bs)) (to-stops isLetter z first) in
+        record { is = t .is; wide = t .wide ∙ long }
+    go Digit e h =
+        let n = leading isDigit (b ∷ bs) in
+        let long = length-take-le n (b ∷ bs) (leading-le-length isDigit (b ∷ bs)) in
+        let some : 0 < n = leading-some isDigit b bs (digit-kind b e) in
+        let first : firstly isDigit z ≡ false =
+        sym (figure-first z) ∙ ap is-figure h ∙ figure-first (drop n (b ∷ bs)) ∙ from-stops isDigit (drop n (b ∷ bs)) (leading-stops isDigit (b ∷ bs))
+        in
+        let t = shows-figures (take n (b ∷ bs)) z (omega (arith, long)) (front-passes isDigit (b ∷ bs)) (to-stops isDigit z first) in
+        record { is = t .is; wide = t .wide ∙ long }
+    go Outside e h = record { is = rw e refl; wide = rw e refl }
+
+-- From place p with bs left, the reading r went over the bytes x, up to place q with y left; and it does so again, to the same end, with
+-- anything in place of y that begins with the same mark.
+pub record Again {A : Type 0} (r : ℕ → List ℕ → Got A) (p : ℕ) (bs x y : List ℕ) (q : ℕ) (out : List ℕ → Got A) : Type 0 where
+  pub splits : bs ≡ x ++ y
+  pub place : q ≡ p + length x
+  pub again : (z : List ℕ) → next z ≡ next y → r p (x ++ z) ≡ out z
+  pub same : (z : List ℕ) → next z ≡ next y → next (x ++ z) ≡ next bs
+
+pub record GotAgain {A : Type 0} (r : ℕ → List ℕ → Got A) (p : ℕ) (bs : List ℕ) (a : A) (q : ℕ) (rest : List ℕ) : Type 0 where
+  pub over : List ℕ
+  pub is : Again r p bs over rest q (λ z. got a q z)
+
+pub record FaultAgain {A : Type 0} (r : ℕ → List ℕ → Got A) (p : ℕ) (bs : List ℕ) (l c q : ℕ) : Type 0 where
+  pub over : List ℕ
+  pub left : List ℕ
+  pub is : Again r p bs over left q (λ z. fault l c q)
+
+-- A reading that looks no further than the mark that it stops at. Layer 3 tells no place in the text.
+pub record Local {A : Type 0} (r : ℕ → List ℕ → Got A) : Type 0 where
+  pub gots : (p : ℕ) (bs : List ℕ) (a : A) (q : ℕ) (rest : List ℕ) → r p bs ≡ got a q rest → GotAgain r p bs a q rest
+  pub faults : (p : ℕ) (bs : List ℕ) (l c q : ℕ) → r p bs ≡ fault l c q → l ≤ 2 → FaultAgain r p bs l c q
+
+pub local-got : {A : Type 0} (a : A) → Local (λ p bs. got a p bs)
+local-got a =
+    record {
+      gots =
+          λ p bs b q rest e.
+          let same : a ≡ b = cc in
+          let here : p ≡ q = cc in
+          let left : bs ≡ rest = cc in
+          record {
+            over = [];
+            is =
+                record {
+                  splits = left;
+                  place = omega arith;
+                  again = λ z h. ap (λ x. got x p z) same ∙ ap (λ x. got b x z) here;
+                  same = λ z h. h ∙ ap next (sym left);
+                };
+          };
+      faults = λ p bs l c q e h. let w : _≡_ {A = ℕ} 0 1 = cc in apart w;
+    }
+
+pub local-third : {A : Type 0} → Local {A = A} (λ p bs. fault 3 5 0)
+local-third =
+    record {
+      gots = λ p bs b q rest e. let w : _≡_ {A = ℕ} 0 1 = cc in apart w;
+      faults = λ p bs l c q e h. let w : 3 ≡ l = cc in absurd (omega arith);
+    }
+
+pub local-same : {A : Type 0} (r s : ℕ → List ℕ → Got A) → ((p : ℕ) (bs : List ℕ) → r p bs ≡ s p bs) → Local r → Local s
+local-same r s e h =
+    record {
+      gots =
+          λ p bs b q rest f.
+          let g = h .gots p bs b q rest (e p bs ∙ f) in
+          record {
+            over = g .over;
+            is =
+                record {
+                  splits = g .is .splits;
+                  place = g .is .place;
+                  again = λ z k. sym (e p (g .over ++ z)) ∙ g .is .again z k;
+                  same = g .is .same;
+                };
+          };
+      faults =
+          λ p bs l c q f small.
+          let g = h .faults p bs l c q (e p bs ∙ f) small in
+          record {
+            over = g .over;
+            left = g .left;
+            is =
+                record {
+                  splits = g .is .splits;
+                  place = g .is .place;
+                  again = λ z k. sym (e p (g .over ++ z)) ∙ g .is .again z k;
+                  same = g .is .same;
+                };
+          };
+    }
+
+-- One after another.
+join :
+    {A B : Type 0} (r : ℕ → List ℕ → Got A) (k : A → ℕ → List ℕ → Got B) (p : ℕ) (bs x : List ℕ) (a : A) (m : ℕ) (mid y left : List ℕ) (q : ℕ)
+    (out : List ℕ → Got B)
+    → Again r p bs x mid m (λ z. got a m z) → Again (k a) m mid y left q out → Again (λ p bs. andThen (r p bs) k) p bs (x ++ y) left q out
+join r k p bs x a m mid y left q out f g =
+    record {
+      splits = f .splits ∙ ap (λ z. x ++ z) (g .splits) ∙ sym (append-assoc x y left);
+      place = omega (arith, f .place, g .place, length-append x y);
+      again =
+          λ z h.
+          goes (r p ((x ++ y) ++ z)) k a m (y ++ z) (out z) (ap (r p) (append-assoc x y z) ∙ f .again (y ++ z) (g .same z h)) (g .again z h);
+      same = λ z h. ap next (append-assoc x y z) ∙ f .same (y ++ z) (g .same z h);
+    }
+
+pub local-then :
+    {A B : Type 0} (r : ℕ → List ℕ → Got A) (k : A → ℕ → List ℕ → Got B) → Local r → ((a : A) → Local (k a)) → Local (λ p bs. andThen (r p bs) k)
+local-then {A} {B} r k f g =
+    record {
+      gots =
+          λ p bs b q rest e.
+          let w = went (r p bs) k b q rest e in
+          let u = f .gots p bs (w .thing) (w .place) (w .left) (w .first) in
+          let v = g (w .thing) .gots (w .place) (w .left) b q rest (w .second) in
+          record {
+            over = u .over ++ v .over;
+            is = join r k p bs (u .over) (w .thing) (w .place) (w .left) (v .over) rest q (λ z. got b q z) (u .is) (v .is);
+          };
+      faults = λ p bs l c q e small. go p bs l c q small (r p bs) refl e;
+    }
+  where
+    go :
+        (p : ℕ) (bs : List ℕ) (l c q : ℕ) → l ≤ 2 → (x : Got A) → r p bs ≡ x → andThen x k ≡ fault l c q → FaultAgain (λ p bs. andThen (r p bs) k) p bs l c q
+    go p bs l c q small (got a m mid) e h =
+        let u = f .gots p bs a m mid e in
+        let v = g a .faults m mid l c q h small in
+        record {
+          over = u .over ++ v .over;
+          left = v .left;
+          is = join r k p bs (u .over) a m mid (v .over) (v .left) q (λ z. fault l c q) (u .is) (v .is);
+        }
+    go p bs l c q small (fault i j s) e h =
+        let same : _≡_ {A = Got A} (fault i j s) (fault l c q) =
+        let a : i ≡ l = cc in let b : j ≡ c = cc in let d : s ≡ q = cc in
+        ap (λ z. fault z j s) a ∙ ap (λ z. fault l z s) b ∙ ap (λ z. fault l c z) d
+        in
+        let u = f .faults p bs l c q (e ∙ same) small in
+        record {
+          over = u .over;
+          left = u .left;
+          is =
+              record {
+                splits = u .is .splits;
+                place = u .is .place;
+                again = λ z t. ap (λ x. andThen x k) (u .is .again z t);
+                same = u .is .same;
+              };
+        }
+
+-- One or the other, by the mark in hand.
+pub local-choice :
+    {A : Type 0} (t : Mark → Bool) (r s : ℕ → List ℕ → Got A)
+    → Local r → Local s → Local (λ p bs. elim (t (next bs)) [ true ↦ r p bs | false ↦ s p bs ])
+local-choice {A} t r s f g =
+    record {
+      gots = λ p bs b q rest e. go p bs b q rest (t (next bs)) refl e;
+      faults = λ p bs l c q e small. stop p bs l c q small (t (next bs)) refl e;
+    }
+  where
+    pick : Bool → ℕ → List ℕ → Got A
+    pick b p bs = elim b [ true ↦ r p bs | false ↦ s p bs ]
+
+    carry :
+        (p : ℕ) (bs x y : List ℕ) (q : ℕ) (out : List ℕ → Got A) (b : Bool)
+        → t (next bs) ≡ b → Again (pick b) p bs x y q out → Again (λ p bs. pick (t (next bs)) p bs) p bs x y q out
+    carry p bs x y q out b e h =
+        record {
+          splits = h .splits;
+          place = h .place;
+          again = λ z k. ap (λ c. pick c p (x ++ z)) (ap t (h .same z k) ∙ e) ∙ h .again z k;
+          same = h .same;
+        }
+
+    go :
+        (p : ℕ) (bs : List ℕ) (a : A) (q : ℕ) (rest : List ℕ) (b : Bool)
+        → t (next bs) ≡ b → pick b p bs ≡ got a q rest → GotAgain (λ p bs. pick (t (next bs)) p bs) p bs a q rest
+    go p bs a q rest true e h =
+        let u = f .gots p bs a q rest h in
+        record { over = u .over; is = carry p bs (u .over) rest q (λ z. got a q z) true e (u .is) }
+    go p bs a q rest false e h =
+        let u = g .gots p bs a q rest h in
+        record { over = u .over; is = carry p bs (u .over) rest q (λ z. got a q z) false e (u .is) }
+
+    stop :
+        (p : ℕ) (bs : List ℕ) (l c q : ℕ) → l ≤ 2 → (b : Bool)
+        → t (next bs) ≡ b → pick b p bs ≡ fault l c q → FaultAgain (λ p bs. pick (t (next bs)) p bs) p bs l c q
+    stop p bs l c q small true e h =
+        let u = f .faults p bs l c q h small in
+        record { over = u .over; left = u .left; is = carry p bs (u .over) (u .left) q (λ z. fault l c q) true e (u .is) }
+    stop p bs l c q small false e h =
+        let u = g .faults p bs l c q h small in
+        record { over = u .over; left = u .left; is = carry p bs (u .over) (u .left) q (λ z. fault l c q) false e (u .is) }
+
+-- A mark that is not wanted.
+unwanted-place : {A : Type 0} (m : Mark) (p l c q : ℕ) → unwanted {A = A} m p ≡ fault l c q → q ≡ p
+unwanted-place (sign b) p l c q e = cc
+unwanted-place (word w) p l c q e = cc
+unwanted-place (number n) p l c q e = cc
+unwanted-place end p l c q e = cc
+unwanted-place (bad k) p l c q e = cc
+
+pub local-unwanted : {A : Type 0} → Local {A = A} (λ p bs. unwanted (next bs) p)
+local-unwanted {A} =
+    record {
+      gots = λ p bs b q rest e. absurd (never-got (next bs) p b q rest e);
+      faults =
+          λ p bs l c q e small.
+          record {
+            over = [];
+            left = bs;
+            is =
+                record {
+                  splits = refl;
+                  place = unwanted-place (next bs) p l c q e ∙ sym (add-zero p);
+                  again = λ z h. ap (λ m. unwanted m p) h ∙ e;
+                  same = λ z h. h;
+                };
+          };
+    }
+
+-- The mark in hand.
+here : ℕ → List ℕ → Got Mark
+here p bs = got (next bs) (p + width bs) (drop (width bs) bs)
+
+local-here : Local here
+unfolding here
+local-here =
+    record {
+      gots =
+          λ p bs m q rest e.
+          let mark : next bs ≡ m = cc in
+          let place : p + width bs ≡ q = cc in
+          let left : drop (width bs) bs ≡ rest = cc in
+          let long = length-take-le (width bs) bs (width-fits bs) in
+          record {
+            over = take (width bs) bs;
+            is =
+                record {
+                  splits = sym (take-append-drop (width bs) bs) ∙ ap (λ z. take (width bs) bs ++ z) left;
+                  place = omega (arith, long, place);
+                  again =
+                      λ z h.
+                      let s = stays bs z (h ∙ ap next (sym left)) in
+                      let x = take (width bs) bs in
+                      ap (λ k. got (next (x ++ z)) (p + k) (drop k (x ++ z))) (s .wide)
+                      ∙ ap (λ k. got k (p + width bs) (drop (width bs) (x ++ z))) (s .is ∙ mark)
+                      ∙ ap (λ k. got m k (drop (width bs) (x ++ z))) place
+                      ∙ ap (λ k. got m q k) (drop-at x z (width bs) long);
+                  same = λ z h. stays bs z (h ∙ ap next (sym left)) .is;
+                };
+          };
+      faults = λ p bs l c q e small. let w : _≡_ {A = ℕ} 0 1 = cc in apart w;
+    }
+
+pub follow-local : (f : Form) → Local (follow f)
+unfolding here
+follow-local [] = local-got []
+follow-local (w ∷ f) =
+    local-same
+    (λ p bs.
+    elim (meets w (next bs)) [
+      | true ↦ andThen (here p bs) (λ m q rest. andThen (follow f q rest) (λ ns q rest. got (keeps w m ns) q rest))
+      | false ↦ unwanted (next bs) p
+    ])
+    (follow (w ∷ f))
+    (λ p bs. refl)
+    (local-choice (meets w) (λ p bs. andThen (here p bs) (λ m q rest. andThen (follow f q rest) (λ ns q rest. got (keeps w m ns) q rest)))
+    (λ p bs. unwanted (next bs) p)
+    (local-then here (λ m q rest. andThen (follow f q rest) (λ ns q rest. got (keeps w m ns) q rest)) local-here
+    (λ m. local-then (follow f) (λ ns q rest. got (keeps w m ns) q rest) (follow-local f) (λ ns. local-got (keeps w m ns))))
+    local-unwanted)

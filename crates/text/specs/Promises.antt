@@ -1,0 +1,54 @@
+-- What is promised of the verdicts.
+use mathlib.Core.Path.{_≡_}
+use mathlib.Core.List.{List, _++_}
+use Prim.Native.Nat.{ℕ, _≤_}
+use lib.ListN.{length, take, drop}
+use Rattle.text.specs.Marks.{next}
+use Rattle.text.specs.Document.{Document, WellFormed, Shaped, written}
+use Rattle.blank.specs.Table.{Passes}
+use Rattle.text.specs.Rows.{rows-of}
+use Rattle.text.specs.Verdicts.{Verdict, Says, accepted, refused}
+
+-- The text is the document's, the document is within the limits, and its table passes the checks.
+pub record Writes (text : List ℕ) (d : Document) : Type 0 where
+  pub is : text ≡ written d
+  pub fits : length text ≤ 60000
+  pub well : WellFormed d
+  pub passes : Passes (rows-of d)
+
+-- A text is accepted with a document exactly where it is the document's text.
+abbrev pub Accepted-is-written : Type 0
+Accepted-is-written = (text : List ℕ) (d : Document) → (Says text (accepted d) → Writes text d) × (Writes text d → Says text (accepted d))
+
+-- No two documents share a text.
+abbrev pub Written-once : Type 0
+Written-once = (d e : Document) → WellFormed d → WellFormed e → written d ≡ written e → d ≡ e
+
+-- Every text has a verdict.
+abbrev pub Verdict-stands : Type 0
+Verdict-stands = (text : List ℕ) → (v : Verdict) × Says text v
+
+-- A text has one verdict.
+abbrev pub Verdict-once : Type 0
+Verdict-once = (text : List ℕ) (v w : Verdict) → Says text v → Says text w → v ≡ w
+
+-- Where a text is refused by layer 1 or 2, no text is accepted that has the same bytes before the place told and the same mark at it.
+abbrev pub Faults-are-real : Type 0
+Faults-are-real =
+    (text other : List ℕ) (layer cause place : ℕ)
+    → Says text (refused layer cause place) → layer ≤ 2
+    → take place other ≡ take place text → next (drop place other) ≡ next (drop place text)
+    → (d : Document) → Says other (accepted d) → ⊥
+
+-- The bytes are the beginning of some document's text, its limits on size aside.
+pub record Beginning (bs : List ℕ) : Type 0 where
+  pub document : Document
+  pub shaped : Shaped document
+  pub rest : List ℕ
+  pub is : written document ≡ bs ++ rest
+
+-- Where a text that is not too long is refused by layer 1 or 2, what stands before the place told is the beginning of a document's text.
+abbrev pub Faults-are-first : Type 0
+Faults-are-first =
+    (text : List ℕ) (layer cause place : ℕ)
+    → length text ≤ 60000 → Says text (refused layer cause place) → layer ≤ 2 → (place ≤ length text) × Beginning (take place text)

@@ -1,0 +1,28 @@
+-- The rows of a document's table: where each state's entries begin, and the entries one after another.
+use mathlib.Core.List.{List, [], _∷_, map}
+use Prim.Native.Nat.{ℕ, _+_}
+use lib.ListN.{length}
+use Rattle.std.specs.shelf.Lists.{joined}
+use Rattle.blank.specs.Table.{Rows}
+use Rattle.text.specs.Document.{Document, Cut}
+
+abbrev pub firsts-after : ℕ → List (List Cut) → List ℕ
+firsts-after e [] = e ∷ []
+firsts-after e (cs ∷ css) = e ∷ firsts-after (e + length cs) css
+
+abbrev pub targets-of : List (List Cut) → List ℕ
+targets-of = joined (map (λ (c : Cut). c .target))
+
+abbrev pub costs-of : List (List Cut) → List ℕ
+costs-of = joined (map (λ (c : Cut). c .cost))
+
+abbrev pub rows-of : Document → Rows
+rows-of d =
+    record {
+      firsts = firsts-after 0 (d .cuts);
+      targets = targets-of (d .cuts);
+      costs = costs-of (d .cuts);
+      estimates = d .estimates;
+      start = d .start;
+      goal = d .goal;
+    }

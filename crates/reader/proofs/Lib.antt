@@ -1,0 +1,5 @@
+pub mod OfKind
+pub mod InHand
+pub mod Numbers
+pub mod Wants
+pub mod Steps

@@ -153,7 +153,7 @@ bad-ten r c e (cost e1 k f) h = absurd (omega arith)
 bad-ten r c e (estimate s k f) h = absurd (omega arith)
 bad-ten r c e (slope u e1 k f) h = (u, (k, f))
 
-bad-five : (r : Rows) (c e : ℕ) → Bad r c e → c ≡ 5 → (e ≡ 0) × (Shape r → ⊥)
+pub bad-five : (r : Rows) (c e : ℕ) → Bad r c e → c ≡ 5 → (e ≡ 0) × (Shape r → ⊥)
 bad-five r c e (shape f) h = (refl, f)
 bad-five r c e (ends f) h = absurd (omega arith)
 bad-five r c e (target u e1 k f) h = absurd (omega arith)

@@ -29,7 +29,7 @@ use Rattle.text.proofs.Marks.{Begins, Stands, next-stands}
 use Rattle.text.proofs.Forms.{Went, went, goes, never-got, follow-sound}
 use Rattle.text.proofs.Cuts.{never}
 use Rattle.text.proofs.Orders.{OrderRead, order-sound, orders-sound, orders-complete}
-use Rattle.text.proofs.Documents.{document-complete}
+use Rattle.text.proofs.Documents.{document-complete, doc, counts, by-count, after-head, parsed-short, parsed-long, Refusal, long, stopped, checked, refusal}
 use Rattle.text.proofs.Local.{Again, GotAgain, FaultAgain, Local, local-got, local-third, local-same, local-then, local-choice, local-unwanted, follow-local}
 
 apart : {A : Type 0} → _≡_ {A = ℕ} 0 1 → A
@@ -325,9 +325,6 @@ all-orders-local =
         turns-same (length (x ++ z)) most p (x ++ z) (omega arith) (omega arith) ∙ ap (λ w. orders-from most p (w ++ z)) (sym (same .0))
         ∙ u .is .again z (h ∙ ap next (sym (same .1)))
 
-abbrev doc : ℕ → ℕ → ℕ → List (List Cut) → List ℕ → List Order → Document
-doc n s g css hs os = record { states = n; start = s; goal = g; cuts = css; estimates = hs; orders = os }
-
 body-local : (n s g : ℕ) → Local (body n s g)
 unfolding all-orders
 body-local n s g =
@@ -339,15 +336,11 @@ body-local n s g =
     (follow-local (estimates-line n))
     (λ hs. local-then all-orders (λ os q rest. got (doc n s g css hs os) q rest) all-orders-local (λ os. local-got (doc n s g css hs os))))
 
-after-head : List ℕ → ℕ → List ℕ → Got Document
-after-head ns q rest =
-    elim (leb 2 (getD ns 0 0) && leb (getD ns 0 0) 1024) [ true ↦ body (getD ns 0 0) (getD ns 1 0) (getD ns 2 0) q rest | false ↦ fault 3 5 0 ]
-
 after-head-local : (ns : List ℕ) → Local (after-head ns)
 unfolding after-head
-after-head-local ns = go (leb 2 (getD ns 0 0) && leb (getD ns 0 0) 1024)
+after-head-local ns = go (counts (getD ns 0 0))
   where
-    go : (t : Bool) → Local (λ q rest. elim t [ true ↦ body (getD ns 0 0) (getD ns 1 0) (getD ns 2 0) q rest | false ↦ fault 3 5 0 ])
+    go : (t : Bool) → Local (λ q rest. by-count ns q rest t)
     go true = body-local (getD ns 0 0) (getD ns 1 0) (getD ns 2 0)
     go false = local-third
 
@@ -373,44 +366,30 @@ not-accepted : {A : Type 0} (l c p : ℕ) (d : Document) → accepted d ≡ refu
 not-accepted l c p d e = let z : _≡_ {A = ℕ} 0 1 = cc in apart z
 
 pub faults-are-real : Faults-are-real
-faults-are-real text other l c p says small front mark d h = over (leb (length text) 60000) refl says
+faults-are-real text other l c p says small front mark d h = by (refusal text l c p says)
   where
-    turn : List ℕ → Bool → Got Document
-    turn t b = elim b [ true ↦ document t | false ↦ fault 2 4 60000 ]
-
-    ends : (g : Got Document) → turn other true ≡ g → (i j k : ℕ) → g ≡ fault i j k → (b : Bool) → Concludes (turn other b) (accepted d) → ⊥
-    ends g e i j k f true h = let P : Got Document → Type 0 = λ g. Concludes g (accepted d) in not-accepted i j k d (subst P (e ∙ f) h)
-    ends g e i j k f false h = not-accepted 2 4 60000 d h
-
-    inner : (g : Got Document) → document text ≡ g → Concludes g (refused l c p) → ⊥
-    inner (got x q bs) e s = omega (arith, s .0, small)
-    inner (fault i j k) e s =
-        let a : l ≡ i = cc in
-        let b : c ≡ j = cc in
-        let m : p ≡ k = cc in
-        let same : document text ≡ fault l c p = e ∙ ap (λ z. fault z j k) (sym a) ∙ ap (λ z. fault l z k) (sym b) ∙ ap (λ z. fault l c z) (sym m) in
-        ends (document other) refl l c p (document-fault text other l c p same small front mark) (leb (length other) 60000) h
+    short : length other ≤ 60000
+    short = elim (cases-lt 60000 (length other)) [ inl n ↦ not-accepted 2 4 60000 d (subst (λ g. Concludes g (accepted d)) (parsed-long other n) h) | inr n ↦ n ]
 
     empty : (z : List ℕ) → next z ≡ end → z ≡ []
     empty z h =
         let P : Mark → Type 0 = λ m. Stands m (width z) z in
         subst P h (next-stands z)
 
-    long : (b : Bool) → leb (length other) 60000 ≡ b → 60000 < length text → p ≡ 60000 → Concludes (turn other b) (accepted d) → ⊥
-    long true t n e h =
-        let short : length other ≤ p = omega (arith, leb-true (length other) 60000 t, e) in
-        let none : drop p text ≡ [] = empty (drop p text) (sym mark ∙ ap next (drop-all p other short)) in
-        omega (arith, ap length (take-append-drop p text), length-append (take p text) (drop p text), ap length none, ap length front, n, e, shorter p other)
-      where
-        shorter : (n : ℕ) (xs : List ℕ) → length (take n xs) ≤ length xs
-        shorter zero xs = omega arith
-        shorter (suc n) [] = omega arith
-        shorter (suc n) (x ∷ xs) = omega (arith, shorter n xs)
-    long false t n e h = not-accepted 2 4 60000 d h
+    shorter : (n : ℕ) (xs : List ℕ) → length (take n xs) ≤ length xs
+    shorter zero xs = omega arith
+    shorter (suc n) [] = omega arith
+    shorter (suc n) (x ∷ xs) = omega (arith, shorter n xs)
 
-    over : (b : Bool) → leb (length text) 60000 ≡ b → Concludes (turn text b) (refused l c p) → ⊥
-    over true t s = inner (document text) refl s
-    over false t s = let e : p ≡ 60000 = cc in long (leb (length other) 60000) refl (leb-false (length text) 60000 t) e h
+    by : Refusal text l c p → ⊥
+    by (checked x k a w) = omega arith
+    by (stopped k e) =
+        let again = document-fault text other l c p e small front mark in
+        not-accepted l c p d (subst (λ g. Concludes g (accepted d)) (parsed-short other short ∙ again) h)
+    by (long n a b m) =
+        let few : length other ≤ p = omega (arith, short, m) in
+        let none : drop p text ≡ [] = empty (drop p text) (sym mark ∙ ap next (drop-all p other few)) in
+        omega (arith, ap length (take-append-drop p text), length-append (take p text) (drop p text), ap length none, ap length front, n, m, shorter p other)
 
 pub written-once : Written-once
 written-once d e h k same =

@@ -2,7 +2,7 @@
 // verdicts. The reader's code meets these rules in a crate of its own. It stands on course and blank.
 ghost use mathlib.Core.Path.{_≡_};
 ghost use Rattle.text.specs.Layers.{layerNumber};
-ghost use Rattle.text.specs.Promises.{Accepted-is-written, Written-once, Verdict-once, Faults-are-real, Faults-are-first, Verdict-stands};
+ghost use Rattle.text.specs.Promises.{Accepted-is-written, Written-once, Verdict-once, Faults-are-real, Faults-are-first, Verdict-stands, Bad-count-is-told};
 use course::Refusal;
 use course::RefusalDebug;
 use course::RefusalPartialEq;
@@ -93,6 +93,13 @@ pub fn faults_are_first() -> u8
 // Every text has a verdict.
 pub fn verdicts_stand() -> u8
     ensures { λ _. ⌜ Verdict-stands ⌝ }
+{
+    0
+}
+
+// A text is refused for its number of states exactly where its first line is whole and says one that is not allowed.
+pub fn bad_counts_are_told() -> u8
+    ensures { λ _. ⌜ Bad-count-is-told ⌝ }
 {
     0
 }

@@ -1,0 +1,71 @@
+-- Why a text is refused: the cause that belongs to what stands at a place.
+use mathlib.Core.Path.{_≡_}
+use mathlib.Core.Bool.{Bool, true, false}
+use mathlib.Core.List.{List, [], _∷_, _++_}
+use Prim.Native.Nat.{ℕ, _+_, _≤_, _<_}
+use lib.ListN.{length, getD, take, drop}
+use Rattle.std.specs.shelf.Lists.{All, joined}
+use Rattle.text.specs.declared.Kind.the-variants.{Outside}
+use Rattle.text.specs.Marks.{isDigit, kind, sign, bad, next, badlyWritten}
+use Rattle.text.specs.Forms.{filled}
+use Rattle.text.specs.Document.{Cut, Short, ShortCut, total, first-line, from, a-cut, space, lines-text}
+
+-- 2 to 1,024 states.
+abbrev pub Allowed : ℕ → Type 0
+Allowed n = (2 ≤ n) × (n ≤ 1024)
+
+-- The bytes begin with a whole first line, its line feed with it, that says n states, whether so many are allowed or not.
+pub record Headed (n : ℕ) (bs : List ℕ) : Type 0 where
+  pub start : ℕ
+  pub goal : ℕ
+  pub rest : List ℕ
+  pub states-short : Short n
+  pub start-short : Short start
+  pub goal-short : Short goal
+  pub is : bs ≡ filled first-line (n ∷ start ∷ goal ∷ []) ++ rest
+
+-- The text of cuts, ` (# #)` for each, with no line's end behind them.
+abbrev pub bare-cuts : List Cut → List ℕ
+bare-cuts = joined (λ (c : Cut). filled a-cut (c .target ∷ c .cost ∷ []))
+
+-- The bytes have as many cuts as a text may have, and go on as if to one more. They are a first line, the whole lines of the states before
+-- some state, and of that state's line `(from u`, its cuts so far, and a space. The cuts are 8,192.
+pub record Full (bs : List ℕ) : Type 0 where
+  pub states : ℕ
+  pub allowed : Allowed states
+  pub head : Headed states bs
+  pub whole : List (List Cut)
+  pub begun : List Cut
+  pub more : length whole < states
+  pub whole-short : All (All ShortCut) whole
+  pub begun-short : All ShortCut begun
+  pub all : total whole + length begun ≡ 8192
+  pub is : head .rest ≡ lines-text 0 whole ++ (filled (from (length whole)) [] ++ (bare-cuts begun ++ filled (space ∷ []) []))
+
+-- The bytes begin with the digits ds, and no digit follows these. (Past the last byte `getD` gives 0, which is no digit.)
+pub record Run (ds bs : List ℕ) : Type 0 where
+  pub some : 0 < length ds
+  pub digits : All (λ b. isDigit b ≡ true) ds
+  pub rest : List ℕ
+  pub is : bs ≡ ds ++ rest
+  pub ends : isDigit (getD rest 0 0) ≡ false
+
+-- What the text has at the place is a fault of this layer with this cause:
+-- layer 1, cause 1: a byte outside the set;
+-- layer 1, cause 2: a number badly written;
+-- layer 2, cause 4: the byte 60,000, where there are more, or the opening bracket of cut 8,193;
+-- layer 2, cause 3: any other mark, or the text's end.
+pub data Told (text : List ℕ) (place : ℕ) : ℕ → ℕ → Type 0 where
+  outside : length text ≤ 60000 → place < length text → kind (getD text place 0) ≡ Outside → Told text place 1 1
+  badly : (ds : List ℕ) → length text ≤ 60000 → Run ds (drop place text) → badlyWritten ds ≡ true → Told text place 1 2
+  too-long : 60000 < length text → place ≡ 60000 → Told text place 2 4
+  too-many : length text ≤ 60000 → Full (take place text) → next (drop place text) ≡ sign 40 → Told text place 2 4
+  misplaced :
+    length text ≤ 60000 → place ≤ length text → ((c : ℕ) → next (drop place text) ≡ bad c → ⊥)
+    → (Full (take place text) → next (drop place text) ≡ sign 40 → ⊥) → Told text place 2 3
+
+-- The text says at its head how many states it has, and so many are not allowed.
+pub record Miscounted (text : List ℕ) : Type 0 where
+  pub states : ℕ
+  pub head : Headed states text
+  pub not-allowed : Allowed states → ⊥

@@ -12,7 +12,7 @@ use Rattle.std.specs.Reads.{value}
 use Rattle.std.specs.shelf.Lists.{leading}
 use Rattle.std.specs.declared.option.Option.{Option}
 use Rattle.std.specs.declared.option.Option.the-variants.{Some, None}
-use Rattle.std.proofs.shelf.Lists.{append-assoc, length-append, append-nil, take-append-drop, take-at, drop-at, drop-all, append-cancel-left}
+use Rattle.std.proofs.shelf.Lists.{append-assoc, length-append, append-nil, take-append-drop, take-at, drop-at, drop-all, drop-drop, append-cancel-left}
 use Rattle.std.proofs.shelf.Tests.{leb-true, leb-false, cases-lt}
 use Rattle.text.specs.Marks.{Mark, sign, word, number, end, bad, isDigit, kind, markOf, next, width, figures, badlyWritten}
 use Rattle.text.specs.declared.Kind.{Kind}
@@ -24,19 +24,20 @@ use Rattle.text.specs.Reading.{cut-of, order-of, verb-of, cuts-from, lines-fro
 use Rattle.blank.specs.Table.{Passes, Bad, Worst}
 use Rattle.text.specs.Rows.{rows-of}
 use Rattle.text.specs.Verdicts.{Verdict, accepted, refused, Checked, Concludes, Says}
+use Rattle.text.specs.Causes.{Starts, at-first, at-next}
 use Rattle.text.specs.Promises.{Written-once, Verdict-once, Faults-are-real}
 use Rattle.text.proofs.Marks.{Begins, Stands, next-stands}
 use Rattle.text.proofs.Forms.{Went, went, goes, never-got, follow-sound}
 use Rattle.text.proofs.Cuts.{never}
 use Rattle.text.proofs.Orders.{OrderRead, order-sound, orders-sound, orders-complete}
 use Rattle.text.proofs.Documents.{document-complete, doc, counts, by-count, after-head, parsed-short, parsed-long, Refusal, long, stopped, checked, refusal}
-use Rattle.text.proofs.Local.{Again, GotAgain, FaultAgain, Local, local-got, local-third, local-same, local-then, local-choice, local-unwanted, follow-local}
+use Rattle.text.proofs.Local.{Steps, no-step, a-step, Again, GotAgain, FaultAgain, Local, local-got, local-third, local-same, local-then, local-choice, local-unwanted, follow-local}
 
 apart : {A : Type 0} → _≡_ {A = ℕ} 0 1 → A
 apart z = absurd (omega arith)
 
 -- What has the mark of a byte in hand begins with that byte.
-begins-with : (b : ℕ) (z : List ℕ) → next z ≡ sign b → z ≡ b ∷ drop (width z) z
+pub begins-with : (b : ℕ) (z : List ℕ) → next z ≡ sign b → z ≡ b ∷ drop (width z) z
 begins-with b z e =
     let P : Mark → Type 0 = λ m. Stands m (width z) z in
     subst P e (next-stands z) .splits
@@ -82,6 +83,10 @@ local-too-many =
                     ∙ ap (λ y. fault y 4 q) la
                     ∙ ap (λ y. fault l y q) ca;
                 same = λ z t. ap next (sym (f .took .splits));
+                marks =
+                    let P : List ℕ → Type 0 = λ x. Steps p x q (40 ∷ rest) in
+                    let there : p + 1 ≡ q = omega (arith, f .took .place, qa) in
+                    subst P (sym (f .took .splits)) (a-step p (32 ∷ 40 ∷ rest) q (40 ∷ rest) (no-step (p + 1) (40 ∷ rest) q (40 ∷ rest) there refl));
               };
         }
     go p bs l c q small (fault i j s) e h =
@@ -100,6 +105,7 @@ local-too-many =
                 place = u .is .place;
                 again = λ z t. ap (λ x. andThen x k) (u .is .again z t);
                 same = u .is .same;
+                marks = u .is .marks;
               };
         }
 
@@ -175,6 +181,7 @@ order-local =
           place = h .place;
           again = λ z k. ap (λ v. pick v p (x ++ z)) (ap verb-of (h .same z k)) ∙ h .again z k;
           same = h .same;
+          marks = h .marks;
         }
 
 -- The orders.
@@ -290,6 +297,7 @@ all-orders-local =
                       λ z h.
                       let none : z ≡ [] = empty z (h ∙ ap next (s .done)) in
                       ap (λ y. next (orders-text os ++ y)) (none ∙ sym (s .done)) ∙ ap next (sym (s .took .splits));
+                  marks = orders-local (length bs) .gots p bs os q rest e .is .marks;
                 };
           };
       faults =
@@ -304,6 +312,7 @@ all-orders-local =
                   place = u .is .place;
                   again = λ z h. retry p bs l c q e small (u .over) (u .left) (u .is .splits) (u .is .place) z h;
                   same = u .is .same;
+                marks = u .is .marks;
                 };
           };
     }
@@ -361,6 +370,17 @@ document-fault text other l c p e small front mark =
     let behind : drop p text ≡ y = ap (drop p) (u .is .splits) ∙ drop-at x y p long in
     let whole : other ≡ x ++ drop p other = sym (take-append-drop p other) ∙ ap (λ z. z ++ drop p other) before in
     ap document whole ∙ u .is .again (drop p other) (mark ∙ ap next behind)
+
+-- The place of such a fault is where a mark begins.
+pub document-starts : (text : List ℕ) (l c p : ℕ) → document text ≡ fault l c p → l ≤ 2 → Starts text p
+unfolding after-head
+document-starts text l c p e small = let u = document-local .faults 0 text l c p e small in go 0 text p (u .left) refl at-first (u .is .marks)
+  where
+    go : (q : ℕ) (bs : List ℕ) (r : ℕ) (rest : List ℕ) → bs ≡ drop q text → Starts text q → Steps q bs r rest → Starts text r
+    go q bs r rest h s (no-step q1 b1 r1 t1 k j) = let P : ℕ → Type 0 = λ x. Starts text x in subst P k s
+    go q bs r rest h s (a-step q1 b1 r1 t1 t) =
+        let P : List ℕ → Type 0 = λ x. Starts text (q + width x) in
+        go (q + width bs) (drop (width bs) bs) r rest (ap (drop (width bs)) h ∙ drop-drop (width bs) q text) (subst P (sym h) (at-next q s)) t
 
 not-accepted : {A : Type 0} (l c p : ℕ) (d : Document) → accepted d ≡ refused l c p → A
 not-accepted l c p d e = let z : _≡_ {A = ℕ} 0 1 = cc in apart z

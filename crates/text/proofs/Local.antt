@@ -100,7 +100,7 @@ from-stops p [] h = refl
 from-stops p (x ∷ xs) h = h
 
 -- Behind the longest run stands something else.
-leading-stops : (p : ℕ → Bool) (bs : List ℕ) → Stops p (drop (leading p bs) bs)
+pub leading-stops : (p : ℕ → Bool) (bs : List ℕ) → Stops p (drop (leading p bs) bs)
 leading-stops p [] = tt
 leading-stops p (x ∷ xs) = go (p x) refl (leading-stops p xs)
   where
@@ -154,6 +154,18 @@ stays (b ∷ bs) z h = let t = go (kind b) refl h in record { is = t .is; wide =
         record { is = t .is; wide = t .wide ∙ long }
     go Outside e h = record { is = rw e refl; wide = rw e refl }
 
+-- From place p with bs left, mark by mark, to place q with rest left.
+pub data Steps : ℕ → List ℕ → ℕ → List ℕ → Type 0 where
+  no-step : (p : ℕ) (bs : List ℕ) (q : ℕ) (rest : List ℕ) → p ≡ q → bs ≡ rest → Steps p bs q rest
+  a-step : (p : ℕ) (bs : List ℕ) (q : ℕ) (rest : List ℕ) → Steps (p + width bs) (drop (width bs) bs) q rest → Steps p bs q rest
+
+steps-both : (p : ℕ) (bs : List ℕ) (m : ℕ) (mid : List ℕ) (q : ℕ) (rest : List ℕ) → Steps p bs m mid → Steps m mid q rest → Steps p bs q rest
+steps-both p bs m mid q rest (no-step p1 b1 m1 d1 e h) t =
+    let P : ℕ → Type 0 = λ x. Steps x bs q rest in
+    let Q : List ℕ → Type 0 = λ x. Steps m x q rest in
+    subst P (sym e) (subst Q (sym h) t)
+steps-both p bs m mid q rest (a-step p1 b1 m1 d1 s) t = a-step p bs q rest (steps-both (p + width bs) (drop (width bs) bs) m mid q rest s t)
+
 -- From place p with bs left, the reading r went over the bytes x, up to place q with y left; and it does so again, to the same end, with
 -- anything in place of y that begins with the same mark.
 pub record Again {A : Type 0} (r : ℕ → List ℕ → Got A) (p : ℕ) (bs x y : List ℕ) (q : ℕ) (out : List ℕ → Got A) : Type 0 where
@@ -161,6 +173,7 @@ pub record Again {A : Type 0} (r : ℕ → List ℕ → Got A) (p : ℕ) (bs x y
   pub place : q ≡ p + length x
   pub again : (z : List ℕ) → next z ≡ next y → r p (x ++ z) ≡ out z
   pub same : (z : List ℕ) → next z ≡ next y → next (x ++ z) ≡ next bs
+  pub marks : Steps p bs q y
 
 pub record GotAgain {A : Type 0} (r : ℕ → List ℕ → Got A) (p : ℕ) (bs : List ℕ) (a : A) (q : ℕ) (rest : List ℕ) : Type 0 where
   pub over : List ℕ
@@ -192,6 +205,7 @@ local-got a =
                   place = omega arith;
                   again = λ z h. ap (λ x. got x p z) same ∙ ap (λ x. got b x z) here;
                   same = λ z h. h ∙ ap next (sym left);
+                  marks = no-step p bs q rest here left;
                 };
           };
       faults = λ p bs l c q e h. let w : _≡_ {A = ℕ} 0 1 = cc in apart w;
@@ -218,6 +232,7 @@ local-same r s e h =
                   place = g .is .place;
                   again = λ z k. sym (e p (g .over ++ z)) ∙ g .is .again z k;
                   same = g .is .same;
+                  marks = g .is .marks;
                 };
           };
       faults =
@@ -232,6 +247,7 @@ local-same r s e h =
                   place = g .is .place;
                   again = λ z k. sym (e p (g .over ++ z)) ∙ g .is .again z k;
                   same = g .is .same;
+                  marks = g .is .marks;
                 };
           };
     }
@@ -249,6 +265,7 @@ join r k p bs x a m mid y left q out f g =
           λ z h.
           goes (r p ((x ++ y) ++ z)) k a m (y ++ z) (out z) (ap (r p) (append-assoc x y z) ∙ f .again (y ++ z) (g .same z h)) (g .again z h);
       same = λ z h. ap next (append-assoc x y z) ∙ f .same (y ++ z) (g .same z h);
+      marks = steps-both p bs m mid q left (f .marks) (g .marks);
     }
 
 pub local-then :
@@ -292,6 +309,7 @@ local-then {A} {B} r k f g =
                 place = u .is .place;
                 again = λ z t. ap (λ x. andThen x k) (u .is .again z t);
                 same = u .is .same;
+                marks = u .is .marks;
               };
         }
 
@@ -317,6 +335,7 @@ local-choice {A} t r s f g =
           place = h .place;
           again = λ z k. ap (λ c. pick c p (x ++ z)) (ap t (h .same z k) ∙ e) ∙ h .again z k;
           same = h .same;
+          marks = h .marks;
         }
 
     go :
@@ -362,6 +381,7 @@ local-unwanted {A} =
                   place = unwanted-place (next bs) p l c q e ∙ sym (add-zero p);
                   again = λ z h. ap (λ m. unwanted m p) h ∙ e;
                   same = λ z h. h;
+                  marks = no-step p bs q bs (sym (unwanted-place (next bs) p l c q e)) refl;
                 };
           };
     }
@@ -395,6 +415,7 @@ local-here =
                       ∙ ap (λ k. got m k (drop (width bs) (x ++ z))) place
                       ∙ ap (λ k. got m q k) (drop-at x z (width bs) long);
                   same = λ z h. stays bs z (h ∙ ap next (sym left)) .is;
+                  marks = a-step p bs q rest (no-step (p + width bs) (drop (width bs) bs) q rest place left);
                 };
           };
       faults = λ p bs l c q e small. let w : _≡_ {A = ℕ} 0 1 = cc in apart w;

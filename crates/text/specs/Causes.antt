@@ -6,7 +6,7 @@ use Prim.Native.Nat.{ℕ, _+_, _≤_, _<_}
 use lib.ListN.{length, getD, take, drop}
 use Rattle.std.specs.shelf.Lists.{All, joined}
 use Rattle.text.specs.declared.Kind.the-variants.{Outside}
-use Rattle.text.specs.Marks.{isDigit, kind, sign, bad, next, badlyWritten}
+use Rattle.text.specs.Marks.{isDigit, kind, sign, bad, next, width, badlyWritten}
 use Rattle.text.specs.Forms.{filled}
 use Rattle.text.specs.Document.{Cut, Short, ShortCut, total, first-line, from, a-cut, space, lines-text}
 
@@ -50,19 +50,29 @@ pub record Run (ds bs : List ℕ) : Type 0 where
   pub is : bs ≡ ds ++ rest
   pub ends : isDigit (getD rest 0 0) ≡ false
 
+-- The places of a text where its marks begin, up to its end: the first at 0, and each other where the mark before it ends.
+pub data Starts (text : List ℕ) : ℕ → Type 0 where
+  at-first : Starts text 0
+  at-next : (place : ℕ) → Starts text place → Starts text (place + width (drop place text))
+
+-- The text is not too long, and a mark of it begins at the place, or its end is there.
+pub record Spot (text : List ℕ) (place : ℕ) : Type 0 where
+  pub fits : length text ≤ 60000
+  pub starts : Starts text place
+
 -- What the text has at the place is a fault of this layer with this cause:
 -- layer 1, cause 1: a byte outside the set;
 -- layer 1, cause 2: a number badly written;
--- layer 2, cause 4: the byte 60,000, where there are more, or the opening bracket of cut 8,193;
+-- layer 2, cause 4: the byte 60,000 of a text that is longer, or the opening bracket of cut 8,193;
 -- layer 2, cause 3: any other mark, or the text's end.
 pub data Told (text : List ℕ) (place : ℕ) : ℕ → ℕ → Type 0 where
-  outside : length text ≤ 60000 → place < length text → kind (getD text place 0) ≡ Outside → Told text place 1 1
-  badly : (ds : List ℕ) → length text ≤ 60000 → Run ds (drop place text) → badlyWritten ds ≡ true → Told text place 1 2
+  outside : Spot text place → place < length text → kind (getD text place 0) ≡ Outside → Told text place 1 1
+  badly : Spot text place → (ds : List ℕ) → Run ds (drop place text) → badlyWritten ds ≡ true → Told text place 1 2
   too-long : 60000 < length text → place ≡ 60000 → Told text place 2 4
-  too-many : length text ≤ 60000 → Full (take place text) → next (drop place text) ≡ sign 40 → Told text place 2 4
+  too-many : Spot text place → Full (take place text) → next (drop place text) ≡ sign 40 → Told text place 2 4
   misplaced :
-    length text ≤ 60000 → place ≤ length text → ((c : ℕ) → next (drop place text) ≡ bad c → ⊥)
-    → (Full (take place text) → next (drop place text) ≡ sign 40 → ⊥) → Told text place 2 3
+    Spot text place → ((c : ℕ) → next (drop place text) ≡ bad c → ⊥) → (Full (take place text) → next (drop place text) ≡ sign 40 → ⊥)
+    → Told text place 2 3
 
 -- The text says at its head how many states it has, and so many are not allowed.
 pub record Miscounted (text : List ℕ) : Type 0 where

@@ -10,7 +10,7 @@ use lib.Dec.{leb}
 use Rattle.std.specs.shelf.Lists.{All}
 use Rattle.std.specs.declared.option.Option.{Option}
 use Rattle.std.specs.declared.option.Option.the-variants.{Some, None}
-use Rattle.std.proofs.shelf.Lists.{append-assoc, length-append, append-nil, take-at, length-replicate}
+use Rattle.std.proofs.shelf.Lists.{append-assoc, length-append, append-nil, take-at, drop-at, length-replicate}
 use Rattle.std.proofs.shelf.Tests.{leb-true, leb-false, and-parts}
 use Rattle.text.specs.Marks.{Mark, sign, word, number, end, bad, next, width}
 use Rattle.text.specs.Forms.{Want, the-sign, the-word, the-number, a-number, Form, filled, meets, keeps, Got, got, fault, andThen, unwanted, follow}
@@ -22,9 +22,9 @@ use Rattle.text.specs.Verdicts.{refused, Checked, Concludes, Says}
 use Rattle.text.specs.Causes.{bare-cuts, Allowed, Full, Headed, Miscounted}
 use Rattle.text.specs.Promises.{Beginning, Faults-are-first}
 use Rattle.text.proofs.Marks.{next-stands}
-use Rattle.text.proofs.Forms.{Took, took-none, took-both, Fits, Followed, follow-sound, Read-one, read-one}
-use Rattle.text.proofs.Cuts.{two, CutsRead, cuts-sound, LinesRead, lines-sound}
-use Rattle.text.proofs.Orders.{spaced-fits, same-order, OrderRead, order-sound}
+use Rattle.text.proofs.Forms.{apart, unwanted-place, Where-fault, before, behind, where-fault, no-got, follow-by, Took, took-none, took-both, Fits, Followed, follow-sound, Read-one, read-one}
+use Rattle.text.proofs.Cuts.{cuts-by, two, CutsRead, cuts-sound, LinesRead, lines-sound}
+use Rattle.text.proofs.Orders.{order-by, spaced-fits, same-order, OrderRead, order-sound}
 use Rattle.text.proofs.Documents.{Three, three, doc, counts, counts-true, counts-false, by-count, after-head, Refusal, long, stopped, checked, refusal}
 
 -- Why a reading stopped, with a fault's layer and cause, behind the bytes over and at the mark m: at no mark, at a mark that is not wanted, or
@@ -56,6 +56,14 @@ pub record Begun {A : Type 0} (w : A → List ℕ) (P : A → Type 0) (F : List 
   pub goes-on : w thing ≡ over ++ tail
   pub why : Why F over (next left) l c
 
+-- In a whole text, what was read stands before the place, and what is left from it on.
+pub begun-at :
+    {A : Type 0} {w : A → List ℕ} {P : A → Type 0} {F : List ℕ → Type 0} {text : List ℕ} {l c q : ℕ} (g : Begun w P F 0 text l c q)
+    → (take q text ≡ g .over) × (drop q text ≡ g .left)
+begun-at {q = q} g =
+    let n : length (g .over) ≡ q = omega (arith, g .place) in
+    (ap (take q) (g .splits) ∙ take-at (g .over) (g .left) q n, ap (drop q) (g .splits) ∙ drop-at (g .over) (g .left) q n)
+
 -- The bytes x were read, and what follows is a beginning: so is the whole, of a thing whose text has both.
 carried :
     {A B : Type 0} {w : A → List ℕ} {P : A → Type 0} {F : List ℕ → Type 0} {v : B → List ℕ} {Q : B → Type 0} {G : List ℕ → Type 0} {p : ℕ} {bs : List ℕ}
@@ -81,20 +89,17 @@ carried x t g on b good more e =
 abbrev Never : List ℕ → Type 0
 Never over = ⊥
 
--- What a mark that is not wanted tells.
-record Unwanted-at (m : Mark) (p l c q : ℕ) : Type 0 where
-  place : q ≡ p
-  why : Why Never [] m l c
-
-unwanted-at : {A : Type 0} (m : Mark) (p l c q : ℕ) → unwanted {A = A} m p ≡ fault l c q → Unwanted-at m p l c q
-unwanted-at (sign b) p l c q e = record { place = cc; why = not-wanted (λ k h. let z : _≡_ {A = ℕ} 0 1 = cc in omega arith) (cc) (cc) }
-unwanted-at (word w) p l c q e = record { place = cc; why = not-wanted (λ k h. let z : _≡_ {A = ℕ} 0 1 = cc in omega arith) (cc) (cc) }
-unwanted-at (number n) p l c q e = record { place = cc; why = not-wanted (λ k h. let z : _≡_ {A = ℕ} 0 1 = cc in omega arith) (cc) (cc) }
-unwanted-at end p l c q e = record { place = cc; why = not-wanted (λ k h. let z : _≡_ {A = ℕ} 0 1 = cc in omega arith) (cc) (cc) }
-unwanted-at (bad k) p l c q e = record { place = cc; why = no-mark (cc) (cc) }
+unwanted-why : {A : Type 0} (m : Mark) (p l c q : ℕ) → unwanted {A = A} m p ≡ fault l c q → Why Never [] m l c
+unwanted-why (sign b) p l c q e = not-wanted (λ k h. let z : _≡_ {A = ℕ} 0 1 = cc in apart z) (cc) (cc)
+unwanted-why (word w) p l c q e = not-wanted (λ k h. let z : _≡_ {A = ℕ} 0 1 = cc in apart z) (cc) (cc)
+unwanted-why (number n) p l c q e = not-wanted (λ k h. let z : _≡_ {A = ℕ} 0 1 = cc in apart z) (cc) (cc)
+unwanted-why end p l c q e = not-wanted (λ k h. let z : _≡_ {A = ℕ} 0 1 = cc in apart z) (cc) (cc)
+unwanted-why (bad k) p l c q e = no-mark (cc) (cc)
 
 -- Nothing was read yet.
-begins : {A : Type 0} (w : A → List ℕ) (P : A → Type 0) (p : ℕ) (bs : List ℕ) (l c q : ℕ) (a : A) → P a → Unwanted-at (next bs) p l c q → Begun w P Never p bs l c q
+begins :
+    {A B : Type 0} (w : A → List ℕ) (P : A → Type 0) (p : ℕ) (bs : List ℕ) (l c q : ℕ) (a : A) → P a → unwanted {A = B} (next bs) p ≡ fault l c q
+    → Begun w P Never p bs l c q
 begins w P p bs l c q a good e =
     record {
       thing = a;
@@ -103,26 +108,10 @@ begins w P p bs l c q a good e =
       left = bs;
       tail = w a;
       splits = refl;
-      place = e .place ∙ sym (add-zero p);
+      place = unwanted-place (next bs) p l c q e ∙ sym (add-zero p);
       goes-on = refl;
-      why = e .why;
+      why = unwanted-why (next bs) p l c q e;
     }
-
--- The two ways to a fault.
-data Where-fault {A B : Type 0} (r : Got A) (k : A → ℕ → List ℕ → Got B) (l c q : ℕ) : Type 0 where
-  before : r ≡ fault l c q → Where-fault r k l c q
-  behind : (a : A) (m : ℕ) (mid : List ℕ) → r ≡ got a m mid → k a m mid ≡ fault l c q → Where-fault r k l c q
-
-where-fault : {A B : Type 0} (r : Got A) (k : A → ℕ → List ℕ → Got B) (l c q : ℕ) → andThen r k ≡ fault l c q → Where-fault r k l c q
-where-fault (got a m mid) k l c q e = behind a m mid refl e
-where-fault (fault i j s) k l c q e =
-    let a : i ≡ l = cc in
-    let b : j ≡ c = cc in
-    let d : s ≡ q = cc in
-    before (ap (λ z. fault z j s) a ∙ ap (λ z. fault l z s) b ∙ ap (λ z. fault l c z) d)
-
-no-got : {A B : Type 0} (a : A) (m : ℕ) (mid : List ℕ) (l c q : ℕ) → got a m mid ≡ fault l c q → B
-no-got a m mid l c q e = let z : _≡_ {A = ℕ} 0 1 = cc in absurd (omega arith)
 
 -- A form with its free numbers 0.
 abbrev Fillable : Form → Type 0
@@ -131,6 +120,10 @@ Fillable (the-sign b ∷ f) = Fillable f
 Fillable (the-word w ∷ f) = Fillable f
 Fillable (the-number k ∷ f) = Short k × Fillable f
 Fillable (a-number ∷ f) = Fillable f
+
+spaced-free : (n : ℕ) → Fillable (spaced-numbers n)
+spaced-free zero = tt
+spaced-free (suc n) = spaced-free n
 
 noughts : Form → List ℕ
 noughts [] = []
@@ -157,12 +150,8 @@ follow-begun : (f : Form) → Fillable f → (p : ℕ) (bs : List ℕ) (l c q : 
 follow-begun [] h p bs l c q e = no-got [] p bs l c q e
 follow-begun (w ∷ f) h p bs l c q e = go (meets w (next bs)) refl e (follow-begun f (fillable-rest w f h) (p + width bs) (drop (width bs) bs) l c q)
   where
-    turn : Bool → Got (List ℕ)
-    turn t =
-        elim t [ true ↦ andThen (follow f (p + width bs) (drop (width bs) bs)) (λ ns q rest. got (keeps w (next bs) ns) q rest) | false ↦ unwanted (next bs) p ]
-
     go :
-        (t : Bool) → meets w (next bs) ≡ t → turn t ≡ fault l c q
+        (t : Bool) → meets w (next bs) ≡ t → follow-by w f p bs t ≡ fault l c q
         → (follow f (p + width bs) (drop (width bs) bs) ≡ fault l c q → Begun (filled f) (Fits f) Never (p + width bs) (drop (width bs) bs) l c q)
         → Begun (filled (w ∷ f)) (Fits (w ∷ f)) Never p bs l c q
     go true t e ih =
@@ -176,7 +165,7 @@ follow-begun (w ∷ f) h p bs l c q e = go (meets w (next bs)) refl e (follow-be
               (one .fills ∙ ap (λ z. one .bytes ++ z) (sym (append-nil (filled f (g .thing)))))
           | behind ns m mid r k ↦ no-got (keeps w (next bs) ns) m mid l c q k
         ]
-    go false t e ih = begins (filled (w ∷ f)) (Fits (w ∷ f)) p bs l c q (noughts (w ∷ f)) (noughts-fit (w ∷ f) h) (unwanted-at (next bs) p l c q e)
+    go false t e ih = begins (filled (w ∷ f)) (Fits (w ∷ f)) p bs l c q (noughts (w ∷ f)) (noughts-fit (w ∷ f) h) e
 
 -- As many cuts as there is room for, and a space.
 record FullCuts (room : ℕ) (bs : List ℕ) : Type 0 where
@@ -201,14 +190,7 @@ free-cut = record { target = 0; cost = 0 }
 cuts-begun : (room p : ℕ) (bs : List ℕ) (l c q : ℕ) → cuts-from room p bs ≡ fault l c q → Begun cuts-text (All ShortCut) (FullCuts room) p bs l c q
 cuts-begun zero p bs l c q e = go (meets closing (next bs)) e
   where
-    turn : Bool → Got (List Cut)
-    turn t =
-        elim t [
-          | true ↦ andThen (follow line-end p bs) (λ ns q rest. got [] q rest)
-          | false ↦ andThen (follow (space ∷ opening ∷ []) p bs) (λ ns q rest. fault 2 4 (q - 1))
-        ]
-
-    go : (t : Bool) → turn t ≡ fault l c q → Begun cuts-text (All ShortCut) (FullCuts zero) p bs l c q
+    go : (t : Bool) → cuts-by zero p bs t ≡ fault l c q → Begun cuts-text (All ShortCut) (FullCuts zero) p bs l c q
     go true e = line-end-begun zero p bs l c q e
     go false e =
         elim (where-fault {B = List Cut} (follow (space ∷ opening ∷ []) p bs) (λ ns q rest. fault 2 4 (q - 1)) l c q e) [
@@ -233,15 +215,8 @@ cuts-begun zero p bs l c q e = go (meets closing (next bs)) e
         ]
 cuts-begun (suc room) p bs l c q e = go (meets closing (next bs)) e (cuts-begun room)
   where
-    turn : Bool → Got (List Cut)
-    turn t =
-        elim t [
-          | true ↦ andThen (follow line-end p bs) (λ ns q rest. got [] q rest)
-          | false ↦ andThen (follow a-cut p bs) (λ ns q rest. andThen (cuts-from room q rest) (λ cs q rest. got (cut-of ns ∷ cs) q rest))
-        ]
-
     go :
-        (t : Bool) → turn t ≡ fault l c q
+        (t : Bool) → cuts-by (suc room) p bs t ≡ fault l c q
         → ((p : ℕ) (bs : List ℕ) (l c q : ℕ) → cuts-from room p bs ≡ fault l c q → Begun cuts-text (All ShortCut) (FullCuts room) p bs l c q)
         → Begun cuts-text (All ShortCut) (FullCuts (suc room)) p bs l c q
     go true e ih = line-end-begun (suc room) p bs l c q e
@@ -383,28 +358,18 @@ order-text o = filled (an-order (verb o)) (numbers o)
 order-begun : (p : ℕ) (bs : List ℕ) (l c q : ℕ) → order-from p bs ≡ fault l c q → Begun order-text (λ o. All Short (numbers o)) Never p bs l c q
 order-begun p bs l c q e = go (verb-of (next bs)) e
   where
-    turn : Option Verb → Got Order
-    turn x = elim x [ Some v ↦ andThen (follow (an-order v) p bs) (λ ns q rest. got (order-of v ns) q rest) | None ↦ unwanted (next bs) p ]
-
-    spaced-free : (n : ℕ) → Fillable (spaced-numbers n)
-    spaced-free zero = tt
-    spaced-free (suc n) = spaced-free n
-
-    free : (v : Verb) → Fillable (an-order v)
-    free v = spaced-free (how-many v)
-
-    go : (x : Option Verb) → turn x ≡ fault l c q → Begun order-text (λ o. All Short (numbers o)) Never p bs l c q
+    go : (x : Option Verb) → order-by x p bs ≡ fault l c q → Begun order-text (λ o. All Short (numbers o)) Never p bs l c q
     go (Some v) e =
         elim (where-fault (follow (an-order v) p bs) (λ ns q rest. got (order-of v ns) q rest) l c q e) [
           | before r ↦
-              let g = follow-begun (an-order v) (free v) p bs l c q r in
+              let g = follow-begun (an-order v) (spaced-free (how-many v)) p bs l c q r in
               let s = same-order v (g .thing) (g .fine) in
               carried [] (took-none p bs) g (λ y h. absurd h) (order-of v (g .thing)) (s .short) []
               (ap (λ z. filled (an-order z) (numbers (order-of v (g .thing)))) (s .same-verb) ∙ ap (filled (an-order v)) (s .same-numbers)
               ∙ sym (append-nil (filled (an-order v) (g .thing))))
           | behind ns m mid r k ↦ no-got (order-of v ns) m mid l c q k
         ]
-    go None e = begins order-text (λ o. All Short (numbers o)) p bs l c q Show tt (unwanted-at (next bs) p l c q e)
+    go None e = begins order-text (λ o. All Short (numbers o)) p bs l c q Show tt e
 
 orders-begun :
     (turns p : ℕ) (bs : List ℕ) (l c q : ℕ) → orders-from turns p bs ≡ fault l c q → Begun orders-text (All (λ o. All Short (numbers o))) Never p bs l c q
@@ -482,10 +447,6 @@ under n s g css hs os ns ss gs lc nh so =
             orders-short = so;
           };
     }
-
-spaced-free : (n : ℕ) → Fillable (spaced-numbers n)
-spaced-free zero = tt
-spaced-free (suc n) = spaced-free n
 
 body-begun :
     (n s g p : ℕ) (bs : List ℕ) (l c q : ℕ) → Short n → Short s → Short g → body n s g p bs ≡ fault l c q → Begun body-text (Under n s g) (FullLines n 0 8192) p bs l c q
@@ -625,9 +586,8 @@ faults-are-first text l c p short says small = go (refusal text l c p says)
         elim (document-stopped text l c p e) [
           | at-count a b m ↦ absurd (omega arith)
           | at-beginning v ↦
-              let n : length (v .over) ≡ p = omega (arith, v .place) in
-              let front : take p text ≡ v .over = ap (take p) (v .splits) ∙ take-at (v .over) (v .left) p n in (
-                omega (arith, n, ap length (v .splits), length-append (v .over) (v .left)),
+              let front : take p text ≡ v .over = begun-at v .0 in (
+                omega (arith, v .place, ap length (v .splits), length-append (v .over) (v .left)),
                 record { document = v .thing; shaped = v .fine; rest = v .tail; is = v .goes-on ∙ ap (λ z. z ++ v .tail) (sym front) },
               )
         ]

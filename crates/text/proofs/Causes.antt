@@ -8,7 +8,7 @@ use native.Mathlib.Omega.{arith}
 use lib.ListN.{length, getD, take, drop}
 use Rattle.std.specs.Reads.{value}
 use Rattle.std.specs.shelf.Lists.{leading}
-use Rattle.std.proofs.shelf.Lists.{take-append-drop, take-at, drop-at, length-drop, length-take-le, length-append, getD-drop}
+use Rattle.std.proofs.shelf.Lists.{take-append-drop, length-drop, length-take-le, getD-drop}
 use Rattle.std.proofs.shelf.Sums.{leading-le-length}
 use Rattle.std.proofs.shelf.Tests.{cond-true}
 use Rattle.text.specs.Marks.{Mark, sign, word, number, end, bad, isDigit, kind, markOf, next, width, figures, badlyWritten}
@@ -19,11 +19,12 @@ use Rattle.text.specs.Reading.{document}
 use Rattle.text.specs.Causes.{Full, Run, Spot, Told, outside, badly, too-long, too-many, misplaced}
 use Rattle.text.specs.Promises.{Causes-are-told, One-cause}
 use Rattle.text.proofs.Runs.{Stops, front-passes, leading-some, digit-kind}
-use Rattle.text.proofs.Marks.{shows-figures}
+use Rattle.text.proofs.Marks.{begins-with, shows-figures}
+use Rattle.text.proofs.Forms.{apart}
 use Rattle.text.proofs.Local.{leading-stops}
 use Rattle.text.proofs.Documents.{Refusal, long, stopped, checked, refusal}
-use Rattle.text.proofs.Faults.{begins-with, document-starts}
-use Rattle.text.proofs.Begun.{Why, no-mark, not-wanted, one-more-cut, Stopped, at-beginning, at-count, document-stopped}
+use Rattle.text.proofs.Faults.{document-starts}
+use Rattle.text.proofs.Begun.{Why, no-mark, not-wanted, one-more-cut, Stopped, at-beginning, at-count, document-stopped, begun-at}
 use Rattle.text.proofs.Full.{full-read}
 
 -- What is no mark: a byte outside the set, or a run of digits badly written.
@@ -40,7 +41,7 @@ first-stops [] h = tt
 first-stops (b ∷ bs) h = h
 
 bad-mark : (bs : List ℕ) (c : ℕ) → next bs ≡ bad c → NoMark bs c
-bad-mark [] c e = let z : _≡_ {A = ℕ} 0 1 = cc in absurd (omega arith)
+bad-mark [] c e = let z : _≡_ {A = ℕ} 0 1 = cc in apart z
 bad-mark (b ∷ bs) c e = go (kind b) refl e
   where
     n : ℕ
@@ -60,11 +61,11 @@ bad-mark (b ∷ bs) c e = go (kind b) refl e
           ends = stops-first (drop n (b ∷ bs)) (leading-stops isDigit (b ∷ bs));
         })
         t
-    digits k false t e = let z : _≡_ {A = ℕ} 0 1 = cc in absurd (omega arith)
+    digits k false t e = let z : _≡_ {A = ℕ} 0 1 = cc in apart z
 
     go : (k : Kind) → kind b ≡ k → markOf k b (b ∷ bs) ≡ bad c → NoMark (b ∷ bs) c
-    go Single k e = let z : _≡_ {A = ℕ} 0 1 = cc in absurd (omega arith)
-    go Letter k e = let z : _≡_ {A = ℕ} 0 1 = cc in absurd (omega arith)
+    go Single k e = let z : _≡_ {A = ℕ} 0 1 = cc in apart z
+    go Letter k e = let z : _≡_ {A = ℕ} 0 1 = cc in apart z
     go Digit k e = digits k (badlyWritten ds) refl e
     go Outside k e = a-byte (cc) (omega arith) k
 
@@ -117,10 +118,10 @@ causes-are-told text l c p says small = go (refusal text l c p says)
         elim (document-stopped text l c p e) [
           | at-count a b m ↦ absurd (omega arith)
           | at-beginning v ↦
-              let n : length (v .over) ≡ p = omega (arith, v .place) in
+              let at = begun-at v in
               why-told e (record { fits = h; starts = document-starts text l c p e small }) (v .over) (next (v .left))
-              (ap (take p) (v .splits) ∙ take-at (v .over) (v .left) p n)
-              (ap (λ z. next (drop p z)) (v .splits) ∙ ap next (drop-at (v .over) (v .left) p n))
+              (at .0)
+              (ap next (at .1))
               (v .why)
         ]
 
@@ -154,10 +155,10 @@ one-cause text place l c k d x y = same (case text place l c x) (case text place
     same (by-length h a b) (by-mark h1 f1 g1 a1 b1) = absurd (omega arith)
     same (by-no-mark h m a) (by-length h1 a1 b1) = absurd (omega arith)
     same (by-no-mark h m a) (by-no-mark h1 m1 a1) = (omega arith, let e : c ≡ d = cc in e)
-    same (by-no-mark h m a) (by-cuts h1 f1 m1 a1 b1) = let z : _≡_ {A = ℕ} 0 1 = cc in absurd (omega arith)
+    same (by-no-mark h m a) (by-cuts h1 f1 m1 a1 b1) = let z : _≡_ {A = ℕ} 0 1 = cc in apart z
     same (by-no-mark h m a) (by-mark h1 f1 g1 a1 b1) = absurd (f1 c m)
     same (by-cuts h f m a b) (by-length h1 a1 b1) = absurd (omega arith)
-    same (by-cuts h f m a b) (by-no-mark h1 m1 a1) = let z : _≡_ {A = ℕ} 0 1 = cc in absurd (omega arith)
+    same (by-cuts h f m a b) (by-no-mark h1 m1 a1) = let z : _≡_ {A = ℕ} 0 1 = cc in apart z
     same (by-cuts h f m a b) (by-cuts h1 f1 m1 a1 b1) = (omega arith, omega arith)
     same (by-cuts h f m a b) (by-mark h1 f1 g1 a1 b1) = absurd (g1 f m)
     same (by-mark h f g a b) (by-length h1 a1 b1) = absurd (omega arith)

@@ -26,21 +26,12 @@ use Rattle.text.specs.Rows.{rows-of}
 use Rattle.text.specs.Verdicts.{Verdict, accepted, refused, Checked, Concludes, Says}
 use Rattle.text.specs.Causes.{Starts, at-first, at-next}
 use Rattle.text.specs.Promises.{Written-once, Verdict-once, Faults-are-real}
-use Rattle.text.proofs.Marks.{Begins, Stands, next-stands}
-use Rattle.text.proofs.Forms.{Went, went, goes, never-got, follow-sound}
+use Rattle.text.proofs.Marks.{begins-with, end-empty}
+use Rattle.text.proofs.Forms.{apart, Went, went, goes, before, behind, where-fault, Followed, follow-sound}
 use Rattle.text.proofs.Cuts.{never}
-use Rattle.text.proofs.Orders.{OrderRead, order-sound, orders-sound, orders-complete}
+use Rattle.text.proofs.Orders.{order-by, OrderRead, order-sound, orders-sound, orders-complete}
 use Rattle.text.proofs.Documents.{document-complete, doc, counts, by-count, after-head, parsed-short, parsed-long, Refusal, long, stopped, checked, refusal}
-use Rattle.text.proofs.Local.{Steps, no-step, a-step, Again, GotAgain, FaultAgain, Local, local-got, local-third, local-same, local-then, local-choice, local-unwanted, follow-local}
-
-apart : {A : Type 0} → _≡_ {A = ℕ} 0 1 → A
-apart z = absurd (omega arith)
-
--- What has the mark of a byte in hand begins with that byte.
-pub begins-with : (b : ℕ) (z : List ℕ) → next z ≡ sign b → z ≡ b ∷ drop (width z) z
-begins-with b z e =
-    let P : Mark → Type 0 = λ m. Stands m (width z) z in
-    subst P e (next-stands z) .splits
+use Rattle.text.proofs.Local.{Steps, no-step, a-step, Again, again-as, GotAgain, FaultAgain, Local, local-got, local-third, local-same, local-then, local-choice, local-unwanted, follow-local}
 
 -- The cut too many, told at its bracket.
 one-too-many : ℕ → List ℕ → Got (List Cut)
@@ -54,58 +45,47 @@ local-too-many =
           λ p bs a q rest e.
           let w = went (follow (space ∷ opening ∷ []) p bs) (λ ns q rest. fault 2 4 (q - 1)) a q rest e in
           never 2 4 (w .place - 1) a q rest (w .second);
-      faults = λ p bs l c q e small. go p bs l c q small (follow (space ∷ opening ∷ []) p bs) refl e;
+      faults =
+          λ p bs l c q e small.
+          elim (where-fault (follow (space ∷ opening ∷ []) p bs) one-more l c q e) [
+            | before h ↦
+                let u = follow-local (space ∷ opening ∷ []) .faults p bs l c q h small in
+                record {
+                  over = u .over;
+                  left = u .left;
+                  is = again-as one-too-many p bs (u .over) (u .left) q (λ z. fault l c q) (u .is) (λ z t. ap (λ x. andThen x one-more) (u .is .again z t));
+                }
+            | behind ns m rest h t ↦ stop p bs l c q ns m rest (follow-sound (space ∷ opening ∷ []) p bs ns m rest h) t
+          ];
     }
   where
-    k : List ℕ → ℕ → List ℕ → Got (List Cut)
-    k ns q rest = fault 2 4 (q - 1)
+    one-more : List ℕ → ℕ → List ℕ → Got (List Cut)
+    one-more ns q rest = fault 2 4 (q - 1)
 
-    go :
-        (p : ℕ) (bs : List ℕ) (l c q : ℕ) → l ≤ 2 → (x : Got (List ℕ)) → follow (space ∷ opening ∷ []) p bs ≡ x → andThen x k ≡ fault l c q
-        → FaultAgain one-too-many p bs l c q
-    go p bs l c q small (got ns m rest) e h =
-        let f = follow-sound (space ∷ opening ∷ []) p bs ns m rest e in
+    stop :
+        (p : ℕ) (bs : List ℕ) (l c q : ℕ) (ns : List ℕ) (m : ℕ) (rest : List ℕ)
+        → Followed (space ∷ opening ∷ []) p bs ns m rest → one-more ns m rest ≡ fault l c q → FaultAgain one-too-many p bs l c q
+    stop p bs l c q ns m rest f h =
         let la : 2 ≡ l = cc in
         let ca : 4 ≡ c = cc in
         let qa : m - 1 ≡ q = cc in
+        let there : p + 1 ≡ q = omega (arith, f .took .place, qa) in
         record {
           over = 32 ∷ [];
           left = 40 ∷ rest;
           is =
               record {
                 splits = f .took .splits;
-                place = omega (arith, f .took .place, qa);
+                place = sym there;
                 again =
                     λ z t.
-                    let s = begins-with 40 z t in
-                    ap (λ y. one-too-many p (32 ∷ y)) s
-                    ∙ ap (λ y. fault 2 4 y) (let d : p + 1 + 1 - 1 ≡ q = omega (arith, f .took .place, qa) in d)
+                    ap (λ y. one-too-many p (32 ∷ y)) (begins-with 40 z t) ∙ ap (λ y. fault 2 4 y) (let d : p + 1 + 1 - 1 ≡ q = omega arith in d)
                     ∙ ap (λ y. fault y 4 q) la
                     ∙ ap (λ y. fault l y q) ca;
                 same = λ z t. ap next (sym (f .took .splits));
                 marks =
                     let P : List ℕ → Type 0 = λ x. Steps p x q (40 ∷ rest) in
-                    let there : p + 1 ≡ q = omega (arith, f .took .place, qa) in
                     subst P (sym (f .took .splits)) (a-step p (32 ∷ 40 ∷ rest) q (40 ∷ rest) (no-step (p + 1) (40 ∷ rest) q (40 ∷ rest) there refl));
-              };
-        }
-    go p bs l c q small (fault i j s) e h =
-        let a : i ≡ l = cc in
-        let b : j ≡ c = cc in
-        let d : s ≡ q = cc in
-        let u =
-        follow-local (space ∷ opening ∷ []) .faults p bs l c q (e ∙ ap (λ z. fault z j s) a ∙ ap (λ z. fault l z s) b ∙ ap (λ z. fault l c z) d) small
-        in
-        record {
-          over = u .over;
-          left = u .left;
-          is =
-              record {
-                splits = u .is .splits;
-                place = u .is .place;
-                again = λ z t. ap (λ x. andThen x k) (u .is .again z t);
-                same = u .is .same;
-                marks = u .is .marks;
               };
         }
 
@@ -150,17 +130,11 @@ lines-local (suc k) u room =
     local-then (lines-from k (suc u) (room - length cs)) (λ css q rest. got (cs ∷ css) q rest) (lines-local k (suc u) (room - length cs))
     (λ css. local-got (cs ∷ css))))
 
--- The order that a mark names, or none.
-pick : Option Verb → ℕ → List ℕ → Got Order
-pick x p bs = elim x [ Some v ↦ andThen (follow (an-order v) p bs) (λ ns q rest. got (order-of v ns) q rest) | None ↦ unwanted (next bs) p ]
-
-pick-local : (x : Option Verb) → Local (pick x)
-unfolding pick
+pick-local : (x : Option Verb) → Local (order-by x)
 pick-local (Some v) = local-then (follow (an-order v)) (λ ns q rest. got (order-of v ns) q rest) (follow-local (an-order v)) (λ ns. local-got (order-of v ns))
 pick-local None = local-unwanted
 
 order-local : Local order-from
-unfolding pick
 order-local =
     record {
       gots =
@@ -174,15 +148,8 @@ order-local =
     }
   where
     carry :
-        (p : ℕ) (bs x y : List ℕ) (q : ℕ) (out : List ℕ → Got Order) → Again (pick (verb-of (next bs))) p bs x y q out → Again order-from p bs x y q out
-    carry p bs x y q out h =
-        record {
-          splits = h .splits;
-          place = h .place;
-          again = λ z k. ap (λ v. pick v p (x ++ z)) (ap verb-of (h .same z k)) ∙ h .again z k;
-          same = h .same;
-          marks = h .marks;
-        }
+        (p : ℕ) (bs x y : List ℕ) (q : ℕ) (out : List ℕ → Got Order) → Again (order-by (verb-of (next bs))) p bs x y q out → Again order-from p bs x y q out
+    carry p bs x y q out h = again-as order-from p bs x y q out h (λ z k. ap (λ v. order-by v p (x ++ z)) (ap verb-of (h .same z k)) ∙ h .again z k)
 
 -- The orders.
 at-end : Mark → Bool
@@ -289,13 +256,13 @@ all-orders-local =
                   place = s .took .place;
                   again =
                       λ z h.
-                      let none : z ≡ [] = empty z (h ∙ ap next (s .done)) in
+                      let none : z ≡ [] = end-empty z (h ∙ ap next (s .done)) in
                       ap (λ y. all-orders p (orders-text os ++ y)) none ∙ ap (all-orders p) (append-nil (orders-text os))
                       ∙ orders-complete os (length (orders-text os)) p q (s .short) (le-refl (length (orders-text os))) (s .took .place)
                       ∙ ap (λ y. got os q y) (sym none);
                   same =
                       λ z h.
-                      let none : z ≡ [] = empty z (h ∙ ap next (s .done)) in
+                      let none : z ≡ [] = end-empty z (h ∙ ap next (s .done)) in
                       ap (λ y. next (orders-text os ++ y)) (none ∙ sym (s .done)) ∙ ap next (sym (s .took .splits));
                   marks = orders-local (length bs) .gots p bs os q rest e .is .marks;
                 };
@@ -307,21 +274,11 @@ all-orders-local =
             over = u .over;
             left = u .left;
             is =
-                record {
-                  splits = u .is .splits;
-                  place = u .is .place;
-                  again = λ z h. retry p bs l c q e small (u .over) (u .left) (u .is .splits) (u .is .place) z h;
-                  same = u .is .same;
-                marks = u .is .marks;
-                };
+                again-as all-orders p bs (u .over) (u .left) q (λ z. fault l c q) (u .is)
+                (λ z h. retry p bs l c q e small (u .over) (u .left) (u .is .splits) (u .is .place) z h);
           };
     }
   where
-    empty : (z : List ℕ) → next z ≡ end → z ≡ []
-    empty z h =
-        let P : Mark → Type 0 = λ m. Stands m (width z) z in
-        subst P h (next-stands z)
-
     retry :
         (p : ℕ) (bs : List ℕ) (l c q : ℕ) → orders-from (length bs) p bs ≡ fault l c q → l ≤ 2 → (x y : List ℕ) → bs ≡ x ++ y → q ≡ p + length x
         → (z : List ℕ) → next z ≡ next y → orders-from (length (x ++ z)) p (x ++ z) ≡ fault l c q
@@ -391,11 +348,6 @@ faults-are-real text other l c p says small front mark d h = by (refusal text l 
     short : length other ≤ 60000
     short = elim (cases-lt 60000 (length other)) [ inl n ↦ not-accepted 2 4 60000 d (subst (λ g. Concludes g (accepted d)) (parsed-long other n) h) | inr n ↦ n ]
 
-    empty : (z : List ℕ) → next z ≡ end → z ≡ []
-    empty z h =
-        let P : Mark → Type 0 = λ m. Stands m (width z) z in
-        subst P h (next-stands z)
-
     shorter : (n : ℕ) (xs : List ℕ) → length (take n xs) ≤ length xs
     shorter zero xs = omega arith
     shorter (suc n) [] = omega arith
@@ -408,7 +360,7 @@ faults-are-real text other l c p says small front mark d h = by (refusal text l 
         not-accepted l c p d (subst (λ g. Concludes g (accepted d)) (parsed-short other short ∙ again) h)
     by (long n a b m) =
         let few : length other ≤ p = omega (arith, short, m) in
-        let none : drop p text ≡ [] = empty (drop p text) (sym mark ∙ ap next (drop-all p other few)) in
+        let none : drop p text ≡ [] = end-empty (drop p text) (sym mark ∙ ap next (drop-all p other few)) in
         omega (arith, ap length (take-append-drop p text), length-append (take p text) (drop p text), ap length none, ap length front, n, m, shorter p other)
 
 pub written-once : Written-once

@@ -64,6 +64,17 @@ next-stands (b ∷ bs) = go (kind b) refl
         good-figures (take n (b ∷ bs)) n (b ∷ bs) (front-passes isDigit (b ∷ bs)) (omega (arith, t .long)) t
     go Outside e = tt
 
+-- What has the mark of a byte in hand begins with that byte, and what has the end in hand is empty.
+pub begins-with : (b : ℕ) (bs : List ℕ) → next bs ≡ sign b → bs ≡ b ∷ drop (width bs) bs
+begins-with b bs e =
+    let P : Mark → Type 0 = λ m. Stands m (width bs) bs in
+    subst P e (next-stands bs) .splits
+
+pub end-empty : (bs : List ℕ) → next bs ≡ end → bs ≡ []
+end-empty bs e =
+    let P : Mark → Type 0 = λ m. Stands m (width bs) bs in
+    subst P e (next-stands bs)
+
 -- In front of bs stand the bytes x, as the mark m.
 pub record Shows (m : Mark) (x rest : List ℕ) : Type 0 where
   pub is : next (x ++ rest) ≡ m

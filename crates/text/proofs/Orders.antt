@@ -63,13 +63,14 @@ pub record OrderRead (p : ℕ) (bs : List ℕ) (o : Order) (q : ℕ) (rest : Lis
   pub short : All Short (numbers o)
   pub took : Took (filled (an-order (verb o)) (numbers o)) p bs q rest
 
+-- An order, by the verb in hand, if there is one.
+abbrev pub order-by : Option Verb → ℕ → List ℕ → Got Order
+order-by x p bs = elim x [ Some v ↦ andThen (follow (an-order v) p bs) (λ ns q rest. got (order-of v ns) q rest) | None ↦ unwanted (next bs) p ]
+
 pub order-sound : (p : ℕ) (bs : List ℕ) (o : Order) (q : ℕ) (rest : List ℕ) → order-from p bs ≡ got o q rest → OrderRead p bs o q rest
 order-sound p bs o q rest e = go (verb-of (next bs)) e
   where
-    go :
-        (x : Option Verb)
-        → elim x [ Some v ↦ andThen (follow (an-order v) p bs) (λ ns q rest. got (order-of v ns) q rest) | None ↦ unwanted (next bs) p ] ≡ got o q rest
-        → OrderRead p bs o q rest
+    go : (x : Option Verb) → order-by x p bs ≡ got o q rest → OrderRead p bs o q rest
     go (Some v) e =
         let w = went (follow (an-order v) p bs) (λ ns q rest. got (order-of v ns) q rest) o q rest e in
         let f = follow-sound (an-order v) p bs (w .thing) (w .place) (w .left) (w .first) in

@@ -131,8 +131,8 @@ data Case (text : List ℕ) (place l c : ℕ) : Type 0 where
   by-no-mark : length text ≤ 60000 → next (drop place text) ≡ bad c → l ≡ 1 → Case text place l c
   by-cuts : length text ≤ 60000 → Full (take place text) → next (drop place text) ≡ sign 40 → l ≡ 2 → c ≡ 4 → Case text place l c
   by-mark :
-    length text ≤ 60000 → ((c : ℕ) → next (drop place text) ≡ bad c → ⊥) → (Full (take place text) → next (drop place text) ≡ sign 40 → ⊥) → l ≡ 2
-    → c ≡ 3 → Case text place l c
+      length text ≤ 60000 → ((c : ℕ) → next (drop place text) ≡ bad c → ⊥) → (Full (take place text) → next (drop place text) ≡ sign 40 → ⊥) → l ≡ 2
+      → c ≡ 3 → Case text place l c
 
 case : (text : List ℕ) (place l c : ℕ) → Told text place l c → Case text place l c
 case text place l c (outside s h k) =

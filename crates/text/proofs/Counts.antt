@@ -38,7 +38,7 @@ bad-count-is-told text place = ((λ says. to (refusal text 3 5 place says)), fro
   where
     to : Refusal text 3 5 place → (place ≡ 0) × (length text ≤ 60000) × Miscounted text
     to (long h a b m) = absurd (omega arith)
-    to (checked d h a w) = absurd (bad-five (rows-of d) 5 place (w .is) refl .1 (read-shape d (h .well)))
+    to (checked d h a w) = absurd (bad-five (rows-of d) place (w .is) .1 (read-shape d (h .well)))
     to (stopped h e) =
         elim (document-stopped text 3 5 place e) [
           | at-count a b m ↦ (b, h, m)

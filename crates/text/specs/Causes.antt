@@ -1,4 +1,4 @@
--- Why a text is refused: the cause that belongs to what stands at a place.
+-- Why a text is refused: which layer and cause belong to what stands at a place, said without the reader.
 use mathlib.Core.Path.{_≡_}
 use mathlib.Core.Bool.{Bool, true, false}
 use mathlib.Core.List.{List, [], _∷_, _++_}
@@ -10,7 +10,7 @@ use Rattle.text.specs.Marks.{isDigit, kind, sign, bad, next, width, badlyWritt
 use Rattle.text.specs.Forms.{filled}
 use Rattle.text.specs.Document.{Cut, Short, ShortCut, total, first-line, from, a-cut, space, lines-text}
 
--- 2 to 1,024 states.
+-- A number of states that a text may say: 2 to 1,024.
 abbrev pub Allowed : ℕ → Type 0
 Allowed n = (2 ≤ n) × (n ≤ 1024)
 
@@ -28,8 +28,9 @@ pub record Headed (n : ℕ) (bs : List ℕ) : Type 0 where
 abbrev pub bare-cuts : List Cut → List ℕ
 bare-cuts = joined (λ (c : Cut). filled a-cut (c .target ∷ c .cost ∷ []))
 
--- The bytes have as many cuts as a text may have, and go on as if to one more. They are a first line, the whole lines of the states before
--- some state, and of that state's line `(from u`, its cuts so far, and a space. The cuts are 8,192.
+-- The bytes are a first line, the whole lines of the states before some state u, and of the line of u `(from u`, its cuts so far, and a
+-- space; and these cuts are 8,192 together, as many as a text may have. What stands behind such bytes, if it is an opening bracket, opens one
+-- cut too many.
 pub record Full (bs : List ℕ) : Type 0 where
   pub states : ℕ
   pub allowed : Allowed states
@@ -42,7 +43,7 @@ pub record Full (bs : List ℕ) : Type 0 where
   pub all : total whole + length begun ≡ 8192
   pub is : head .rest ≡ lines-text 0 whole ++ (filled (from (length whole)) [] ++ (bare-cuts begun ++ filled (space ∷ []) []))
 
--- The bytes begin with the digits ds, and no digit follows these. (Past the last byte `getD` gives 0, which is no digit.)
+-- The bytes begin with the digits ds, one or more, and no digit follows these. (Where nothing follows, `getD` gives 0, which is no digit.)
 pub record Run (ds bs : List ℕ) : Type 0 where
   pub some : 0 < length ds
   pub digits : All (λ b. isDigit b ≡ true) ds
@@ -60,19 +61,19 @@ pub record Spot (text : List ℕ) (place : ℕ) : Type 0 where
   pub fits : length text ≤ 60000
   pub starts : Starts text place
 
--- What the text has at the place is a fault of this layer with this cause:
+-- Which layer and cause belong to what stands at a place of the text. It says nothing of whether that is a fault.
 -- layer 1, cause 1: a byte outside the set;
 -- layer 1, cause 2: a number badly written;
--- layer 2, cause 4: the byte 60,000 of a text that is longer, or the opening bracket of cut 8,193;
--- layer 2, cause 3: any other mark, or the text's end.
+-- layer 2, cause 4: the byte at offset 60,000 of a text that is too long, and the opening bracket of cut 8,193;
+-- layer 2, cause 3: any other mark, and the text's end.
 pub data Told (text : List ℕ) (place : ℕ) : ℕ → ℕ → Type 0 where
   outside : Spot text place → place < length text → kind (getD text place 0) ≡ Outside → Told text place 1 1
   badly : Spot text place → (ds : List ℕ) → Run ds (drop place text) → badlyWritten ds ≡ true → Told text place 1 2
   too-long : 60000 < length text → place ≡ 60000 → Told text place 2 4
   too-many : Spot text place → Full (take place text) → next (drop place text) ≡ sign 40 → Told text place 2 4
   misplaced :
-    Spot text place → ((c : ℕ) → next (drop place text) ≡ bad c → ⊥) → (Full (take place text) → next (drop place text) ≡ sign 40 → ⊥)
-    → Told text place 2 3
+      Spot text place → ((c : ℕ) → next (drop place text) ≡ bad c → ⊥) → (Full (take place text) → next (drop place text) ≡ sign 40 → ⊥)
+      → Told text place 2 3
 
 -- The text says at its head how many states it has, and so many are not allowed.
 pub record Miscounted (text : List ℕ) : Type 0 where

@@ -10,7 +10,7 @@ use Rattle.text.specs.Rows.{rows-of}
 use Rattle.text.specs.Verdicts.{Verdict, Says, accepted, refused}
 use Rattle.text.specs.Causes.{Told, Miscounted}
 
--- The text is the document's, the document is within the limits, and its table passes the checks.
+-- The text is the document's and is not too long, the document is within the limits, and its table passes the checks.
 pub record Writes (text : List ℕ) (d : Document) : Type 0 where
   pub is : text ≡ written d
   pub fits : length text ≤ 60000
@@ -54,12 +54,12 @@ Faults-are-first =
     (text : List ℕ) (layer cause place : ℕ)
     → length text ≤ 60000 → Says text (refused layer cause place) → layer ≤ 2 → (place ≤ length text) × Beginning (take place text)
 
--- A text that layer 1 or 2 refuses has at the place told a fault of that layer with that cause.
+-- Where a text is refused by layer 1 or 2, the layer and the cause are those that belong to what stands at the place told.
 abbrev pub Causes-are-told : Type 0
 Causes-are-told =
     (text : List ℕ) (layer cause place : ℕ) → Says text (refused layer cause place) → layer ≤ 2 → Told text place layer cause
 
--- A text has at one place no two faults of layers 1 and 2.
+-- One layer and one cause belong to what stands at a place.
 abbrev pub One-cause : Type 0
 One-cause =
     (text : List ℕ) (place l c k d : ℕ) → Told text place l c → Told text place k d → (l ≡ k) × (c ≡ d)

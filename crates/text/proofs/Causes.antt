@@ -15,14 +15,16 @@ use Rattle.text.specs.Marks.{Mark, sign, word, number, end, bad, isDigit, kind
 use Rattle.text.specs.declared.Kind.{Kind}
 use Rattle.text.specs.declared.Kind.the-variants.{Single, Letter, Digit, Outside}
 use Rattle.text.specs.Forms.{Got, got, fault}
-use Rattle.text.specs.Reading.{document}
+use Rattle.text.specs.Reading.{document, parsed}
 use Rattle.text.specs.Causes.{Full, Run, Spot, Told, outside, badly, too-long, too-many, misplaced}
-use Rattle.text.specs.Promises.{Causes-are-told, One-cause}
+use Rattle.text.specs.Document.{Document}
+use Rattle.text.specs.Verdicts.{refused, Concludes, Says}
+use Rattle.text.specs.Promises.{Causes-are-told, One-cause, Too-much-is-told}
 use Rattle.text.proofs.Runs.{Stops, front-passes, leading-some, digit-kind}
 use Rattle.text.proofs.Marks.{begins-with, shows-figures}
 use Rattle.text.proofs.Forms.{apart}
 use Rattle.text.proofs.Local.{leading-stops}
-use Rattle.text.proofs.Documents.{Refusal, long, stopped, checked, refusal}
+use Rattle.text.proofs.Documents.{parsed-short, parsed-long, Refusal, long, stopped, checked, refusal}
 use Rattle.text.proofs.Faults.{document-starts}
 use Rattle.text.proofs.Begun.{Why, no-mark, not-wanted, one-more-cut, Stopped, at-beginning, at-count, document-stopped, begun-at}
 use Rattle.text.proofs.Full.{full-read}
@@ -84,13 +86,12 @@ as-told text p i j l c a b h =
     let Q : ℕ → Type 0 = λ x. Told text p l x in
     subst Q b (subst P a h)
 
--- A text that is full up to a bracket is refused there with cause 4.
-full-text : (text : List ℕ) (l c p : ℕ) → document text ≡ fault l c p → Full (take p text) → next (drop p text) ≡ sign 40 → c ≡ 4
-full-text text l c p e h k =
+-- The reading of a text that is full up to a bracket stops there, with cause 4.
+full-text : (text : List ℕ) (p : ℕ) → Full (take p text) → next (drop p text) ≡ sign 40 → document text ≡ fault 2 4 (length (take p text))
+full-text text p h k =
     let rest = drop (width (drop p text)) (drop p text) in
     let whole : text ≡ take p text ++ 40 ∷ rest = sym (take-append-drop p text) ∙ ap (λ z. take p text ++ z) (begins-with 40 (drop p text) k) in
-    let f : document text ≡ fault 2 4 (length (take p text)) = ap document whole ∙ full-read (take p text) rest h in
-    cc
+    ap document whole ∙ full-read (take p text) rest h
 
 pub causes-are-told : Causes-are-told
 causes-are-told text l c p says small = go (refusal text l c p says)
@@ -107,7 +108,7 @@ causes-are-told text l c p says small = go (refusal text l c p says)
     why-told e s over m front back (no-mark k a) = no-mark-told s a (bad-mark (drop p text) c (back ∙ k))
     why-told e s over m front back (not-wanted f a b) =
         as-told text p 2 3 l c (sym a) (sym b)
-        (misplaced s (λ k h. f k (sym back ∙ h)) (λ h k. omega (arith, full-text text l c p e h k)))
+        (misplaced s (λ k h. f k (sym back ∙ h)) (λ h k. let t = full-text text p h k in let z : c ≡ 4 = cc in omega arith))
     why-told e s over m front back (one-more-cut f k a b) =
         as-told text p 2 4 l c (sym a) (sym b) (too-many s (subst (λ z. Full z) (sym front) f) (back ∙ k))
 
@@ -165,3 +166,18 @@ one-cause text place l c k d x y = same (case text place l c x) (case text place
     same (by-mark h f g a b) (by-no-mark h1 m1 a1) = absurd (f d m1)
     same (by-mark h f g a b) (by-cuts h1 f1 m1 a1 b1) = absurd (g f1 m1)
     same (by-mark h f g a b) (by-mark h1 f1 g1 a1 b1) = (omega arith, omega arith)
+
+pub too-much-is-told : Too-much-is-told
+too-much-is-told text place = ((λ says. causes-are-told text 2 4 place says (omega arith)), to)
+  where
+    as-read : (q : ℕ) → parsed text ≡ fault 2 4 q → place ≡ q → Says text (refused 2 4 place)
+    as-read q e h =
+        let P : Got Document → Type 0 = λ g. Concludes g (refused 2 4 place) in
+        subst P (sym e) (ap (λ z. refused 2 4 z) h)
+
+    to : Told text place 2 4 → Says text (refused 2 4 place)
+    to (too-long h m) = as-read 60000 (parsed-long text h) m
+    to (too-many s f k) =
+        let some : 0 < length (drop place text) = omega (arith, ap length (begins-with 40 (drop place text) k)) in
+        let here : length (take place text) ≡ place = length-take-le place text (omega (arith, length-drop place text)) in
+        as-read (length (take place text)) (parsed-short text (s .fits) ∙ full-text text place f k) (sym here)

@@ -46,3 +46,7 @@ glued = refl
 
 leading-nought : parsed (codes "(007") ≡ fault 1 2 1
 leading-nought = refl
+
+bad-count : parsed (line (codes "(last 1 (start 0) (goal 0))")) ≡ fault 3 5 0
+unfolding line
+bad-count = refl

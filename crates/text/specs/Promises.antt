@@ -64,6 +64,11 @@ abbrev pub One-cause : Type 0
 One-cause =
     (text : List ℕ) (place l c k d : ℕ) → Told text place l c → Told text place k d → (l ≡ k) × (c ≡ d)
 
+-- A text is refused with layer 2 and cause 4 exactly at a place to which these belong: where it is too long, and where it has a cut too many.
+abbrev pub Too-much-is-told : Type 0
+Too-much-is-told =
+    (text : List ℕ) (place : ℕ) → (Says text (refused 2 4 place) → Told text place 2 4) × (Told text place 2 4 → Says text (refused 2 4 place))
+
 -- A text is refused for its number of states exactly where it is not too long and its first line is whole and says a number that is not
 -- allowed, whatever follows that line. The place told is then 0.
 abbrev pub Bad-count-is-told : Type 0

@@ -1,30 +1,27 @@
 -- The faults of layers 1 and 2 are the first: what stands before the place told can be carried on to a document's text.
-use mathlib.Core.Path.{_≡_, refl, sym, _∙_, ap, subst}
+use mathlib.Core.Path.{_≡_, refl, sym, _∙_, ap}
 use mathlib.Core.List.{List, [], _∷_, _++_}
-use mathlib.Core.Bool.{Bool, true, false, _&&_}
+use mathlib.Core.Bool.{Bool, true, false}
 use Prim.Native.Nat.{ℕ, zero, suc, _+_, _-_, _≤_, _<_, _^_}
 use native.Mathlib.Nat.{add-zero, zero-add}
 use native.Mathlib.Omega.{arith}
 use lib.ListN.{length, getD, take, drop, replicate}
-use lib.Dec.{leb}
 use Rattle.std.specs.shelf.Lists.{All}
 use Rattle.std.specs.declared.option.Option.{Option}
 use Rattle.std.specs.declared.option.Option.the-variants.{Some, None}
 use Rattle.std.proofs.shelf.Lists.{append-assoc, length-append, append-nil, take-at, drop-at, length-replicate}
-use Rattle.std.proofs.shelf.Tests.{leb-true, leb-false, and-parts}
 use Rattle.text.specs.Marks.{Mark, sign, word, number, end, bad, next, width}
-use Rattle.text.specs.Forms.{Want, the-sign, the-word, the-number, a-number, Form, filled, meets, keeps, Got, got, fault, andThen, unwanted, follow}
+use Rattle.text.specs.Forms.{Want, the-sign, the-word, the-number, a-number, Form, filled, meets, keeps, got, fault, andThen, unwanted, follow}
 use Rattle.text.specs.Document.{Cut, Document, Verb, Short, ShortCut, Shaped, total, written, first-line, from, a-cut, line-end, spaced-numbers, estimates-line, an-order, how-many, verb, numbers, opening, closing, space, cuts-text, lines-text, orders-text}
 use Rattle.text.specs.declared.Order.{Order}
 use Rattle.text.specs.declared.Order.the-variants.{Show}
-use Rattle.text.specs.Reading.{cut-of, order-of, verb-of, cuts-from, lines-from, order-from, orders-from, body, document, parsed}
-use Rattle.text.specs.Verdicts.{refused, Checked, Concludes, Says}
+use Rattle.text.specs.Reading.{cut-of, order-of, verb-of, cuts-from, lines-from, order-from, orders-from, body, document}
 use Rattle.text.specs.Causes.{bare-cuts, Allowed, Full, Headed, Miscounted}
 use Rattle.text.specs.Promises.{Beginning, Faults-are-first}
 use Rattle.text.proofs.Marks.{next-stands}
-use Rattle.text.proofs.Forms.{apart, unwanted-place, Where-fault, before, behind, where-fault, no-got, follow-by, Took, took-none, took-both, Fits, Followed, follow-sound, Read-one, read-one}
-use Rattle.text.proofs.Cuts.{cuts-by, two, CutsRead, cuts-sound, LinesRead, lines-sound}
-use Rattle.text.proofs.Orders.{order-by, spaced-fits, same-order, OrderRead, order-sound}
+use Rattle.text.proofs.Forms.{apart, unwanted-place, before, behind, where-fault, no-got, follow-by, Took, took-none, took-both, Fits, Followed, follow-sound, read-one}
+use Rattle.text.proofs.Cuts.{cuts-by, two, cuts-sound, lines-sound}
+use Rattle.text.proofs.Orders.{order-by, spaced-fits, same-order, order-sound}
 use Rattle.text.proofs.Documents.{Three, three, doc, counts, counts-true, counts-false, by-count, after-head, Refusal, long, stopped, checked, refusal}
 
 -- Why a reading stopped, with a fault's layer and cause, behind the bytes over and at the mark m: at no mark, at a mark that is not wanted, or

@@ -2,7 +2,7 @@
 use mathlib.Core.Path.{_≡_, refl, sym, _∙_, ap, subst}
 use mathlib.Core.Bool.{Bool, true, false, cond}
 use mathlib.Core.List.{List, [], _∷_, _++_}
-use Prim.Native.Nat.{ℕ, _+_, _≤_, _<_}
+use Prim.Native.Nat.{ℕ, _≤_, _<_}
 use native.Mathlib.Nat.{add-zero}
 use native.Mathlib.Omega.{arith}
 use lib.ListN.{length, getD, take, drop}
@@ -11,10 +11,10 @@ use Rattle.std.specs.shelf.Lists.{leading}
 use Rattle.std.proofs.shelf.Lists.{take-append-drop, length-drop, length-take-le, getD-drop}
 use Rattle.std.proofs.shelf.Sums.{leading-le-length}
 use Rattle.std.proofs.shelf.Tests.{cond-true}
-use Rattle.text.specs.Marks.{Mark, sign, word, number, end, bad, isDigit, kind, markOf, next, width, figures, badlyWritten}
+use Rattle.text.specs.Marks.{Mark, sign, number, bad, isDigit, kind, markOf, next, width, badlyWritten}
 use Rattle.text.specs.declared.Kind.{Kind}
 use Rattle.text.specs.declared.Kind.the-variants.{Single, Letter, Digit, Outside}
-use Rattle.text.specs.Forms.{Got, got, fault}
+use Rattle.text.specs.Forms.{Got, fault}
 use Rattle.text.specs.Reading.{document, parsed}
 use Rattle.text.specs.Causes.{Full, Run, Spot, Told, outside, badly, too-long, too-many, misplaced}
 use Rattle.text.specs.Document.{Document}
@@ -26,7 +26,7 @@ use Rattle.text.proofs.Forms.{apart}
 use Rattle.text.proofs.Local.{leading-stops}
 use Rattle.text.proofs.Documents.{parsed-short, parsed-long, Refusal, long, stopped, checked, refusal}
 use Rattle.text.proofs.Faults.{document-starts}
-use Rattle.text.proofs.Begun.{Why, no-mark, not-wanted, one-more-cut, Stopped, at-beginning, at-count, document-stopped, begun-at}
+use Rattle.text.proofs.Begun.{Why, no-mark, not-wanted, one-more-cut, at-beginning, at-count, document-stopped, begun-at}
 use Rattle.text.proofs.Full.{full-read}
 
 -- What is no mark: a byte outside the set, or a run of digits badly written.

@@ -2,19 +2,19 @@
 use mathlib.Core.Path.{_≡_, refl, sym, _∙_, ap, subst}
 use mathlib.Core.Bool.{Bool, true, false}
 use mathlib.Core.List.{List, [], _∷_, _++_}
-use Prim.Native.Nat.{ℕ, _≤_, _<_}
+use Prim.Native.Nat.{ℕ, _≤_}
 use native.Mathlib.Omega.{arith}
 use lib.ListN.{length}
-use Rattle.text.specs.Forms.{filled, Got, got, fault, follow}
+use Rattle.text.specs.Forms.{filled, Got, fault, follow}
 use Rattle.text.specs.Document.{Document, first-line}
-use Rattle.text.specs.Reading.{document, parsed}
+use Rattle.text.specs.Reading.{document}
 use Rattle.text.specs.Rows.{rows-of}
 use Rattle.text.specs.Verdicts.{refused, Concludes, Says}
-use Rattle.text.specs.Causes.{Allowed, Headed, Miscounted}
+use Rattle.text.specs.Causes.{Miscounted}
 use Rattle.text.specs.Promises.{Bad-count-is-told}
 use Rattle.text.proofs.Forms.{goes}
 use Rattle.text.proofs.Documents.{counts, counts-true, by-count, after-head, first-line-read, parsed-short, Refusal, long, stopped, checked, refusal}
-use Rattle.text.proofs.Begun.{why-layer, Stopped, at-beginning, at-count, document-stopped}
+use Rattle.text.proofs.Begun.{why-layer, at-beginning, at-count, document-stopped}
 use Rattle.text.proofs.Decided.{bad-five}
 use Rattle.text.proofs.Shapes.{read-shape}
 

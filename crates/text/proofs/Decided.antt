@@ -1,6 +1,6 @@
 -- Every text has a verdict: the checks can be decided, and where one fails there is a smallest cause with a least place.
-use mathlib.Core.Path.{_≡_, refl, sym, _∙_, ap, subst}
-use mathlib.Core.List.{List, [], _∷_, _++_}
+use mathlib.Core.Path.{_≡_, refl, sym, subst}
+use mathlib.Core.List.{List, [], _∷_}
 use mathlib.Core.Logic.{_⊎_, inl, inr}
 use Prim.Native.Nat.{ℕ, zero, suc, _+_, _-_, _≤_, _<_}
 use native.Mathlib.Omega.{arith}
@@ -11,7 +11,7 @@ use Rattle.text.specs.Document.{Document}
 use Rattle.text.specs.Reading.{parsed}
 use Rattle.blank.specs.Table.{Rows, states, Shape, Ends, Holds, GoodTarget, GoodCost, GoodEstimate, GoodSlope, Bad, shape, ends, target, cost, estimate, slope, Passes, Worst}
 use Rattle.text.specs.Rows.{rows-of}
-use Rattle.text.specs.Verdicts.{Verdict, accepted, refused, Checked, Concludes, Says}
+use Rattle.text.specs.Verdicts.{Verdict, accepted, refused, Concludes}
 use Rattle.text.specs.Promises.{Verdict-stands}
 
 abbrev Decided : Type 0 → Type 0

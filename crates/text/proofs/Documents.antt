@@ -2,26 +2,25 @@
 use mathlib.Core.Path.{_≡_, refl, sym, _∙_, ap, subst}
 use mathlib.Core.List.{List, [], _∷_, _++_}
 use mathlib.Core.Bool.{Bool, true, false, _&&_}
-use Prim.Native.Nat.{ℕ, zero, suc, _+_, _≤_, _<_}
+use Prim.Native.Nat.{ℕ, _+_, _≤_, _<_}
 use native.Mathlib.Nat.{zero-add, le-refl}
 use native.Mathlib.Omega.{arith}
 use lib.ListN.{length, getD}
 use lib.Dec.{leb}
-use Rattle.std.specs.shelf.Lists.{All}
-use Rattle.std.proofs.shelf.Lists.{append-assoc, length-append, append-nil}
+use Rattle.std.proofs.shelf.Lists.{length-append, append-nil}
 use Rattle.std.proofs.shelf.Tests.{and-parts, and-from, leb-true, leb-false, le-leb, lt-leb}
 use Rattle.text.specs.Forms.{filled, Got, got, fault, andThen, follow}
 use Rattle.text.specs.Document.{Cut, Document, Short, WellFormed, written, first-line, estimates-line, lines-text, orders-text}
 use Rattle.text.specs.declared.Order.{Order}
 use Rattle.text.specs.Reading.{lines-from, orders-from, body, document, parsed}
-use Rattle.blank.specs.Table.{Passes, Worst}
+use Rattle.blank.specs.Table.{Worst}
 use Rattle.text.specs.Rows.{rows-of}
-use Rattle.text.specs.Verdicts.{Verdict, accepted, refused, Checked, Concludes, Says}
+use Rattle.text.specs.Verdicts.{accepted, refused, Concludes, Says}
 use Rattle.text.specs.Causes.{Allowed}
 use Rattle.text.specs.Promises.{Writes, Accepted-is-written}
-use Rattle.text.proofs.Forms.{Went, went, goes, Took, took-both, Fits, Followed, follow-sound, Spaced}
-use Rattle.text.proofs.Cuts.{never, follow-to, LinesRead, lines-sound, lines-complete}
-use Rattle.text.proofs.Orders.{spaced-fits, fits-spaced, spaced-stops, spaced-spaced, OrdersRead, orders-sound, orders-complete}
+use Rattle.text.proofs.Forms.{went, goes, Fits, follow-sound, Spaced}
+use Rattle.text.proofs.Cuts.{never, follow-to, lines-sound, lines-complete}
+use Rattle.text.proofs.Orders.{spaced-fits, fits-spaced, spaced-stops, spaced-spaced, orders-sound, orders-complete}
 
 abbrev pub doc : ℕ → ℕ → ℕ → List (List Cut) → List ℕ → List Order → Document
 doc n s g css hs os = record { states = n; start = s; goal = g; cuts = css; estimates = hs; orders = os }

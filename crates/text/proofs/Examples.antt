@@ -5,7 +5,7 @@ use Prim.Native.Nat.{ℕ}
 use Rattle.std.specs.Written.{digits}
 use lib.Chars.{codes}
 use Rattle.text.specs.Forms.{got, fault}
-use Rattle.text.specs.Document.{Document, Cut, written}
+use Rattle.text.specs.Document.{Document, written}
 use Rattle.text.specs.declared.Order.the-variants.{Ratio, Work, Show}
 use Rattle.text.specs.Reading.{parsed}
 

@@ -1,37 +1,34 @@
 -- The faults of layers 1 and 2 are real: nothing behind the mark at the place told can mend the text.
 use mathlib.Core.Path.{_≡_, refl, sym, _∙_, ap, subst}
 use mathlib.Core.List.{List, [], _∷_, _++_}
-use mathlib.Core.Bool.{Bool, true, false, cond, _&&_}
-use mathlib.Core.Logic.{_⊎_, inl, inr}
-use Prim.Native.Nat.{ℕ, zero, suc, _+_, _-_, _≤_, _<_, max}
-use native.Mathlib.Nat.{add-zero, zero-add, le-refl}
+use mathlib.Core.Bool.{Bool, true, false, cond}
+use mathlib.Core.Logic.{inl, inr}
+use Prim.Native.Nat.{ℕ, zero, suc, _+_, _-_, _≤_}
+use native.Mathlib.Nat.{le-refl}
 use native.Mathlib.Omega.{arith}
 use lib.ListN.{length, getD, take, drop}
-use lib.Dec.{leb}
 use Rattle.std.specs.Reads.{value}
 use Rattle.std.specs.shelf.Lists.{leading}
 use Rattle.std.specs.declared.option.Option.{Option}
 use Rattle.std.specs.declared.option.Option.the-variants.{Some, None}
-use Rattle.std.proofs.shelf.Lists.{append-assoc, length-append, append-nil, take-append-drop, take-at, drop-at, drop-all, drop-drop, append-cancel-left}
-use Rattle.std.proofs.shelf.Tests.{leb-true, leb-false, cases-lt}
-use Rattle.text.specs.Marks.{Mark, sign, word, number, end, bad, isDigit, kind, markOf, next, width, figures, badlyWritten}
+use Rattle.std.proofs.shelf.Lists.{length-append, append-nil, take-append-drop, take-at, drop-at, drop-all, drop-drop, append-cancel-left}
+use Rattle.std.proofs.shelf.Tests.{cases-lt}
+use Rattle.text.specs.Marks.{Mark, sign, word, number, end, bad, isDigit, kind, markOf, next, width, badlyWritten}
 use Rattle.text.specs.declared.Kind.{Kind}
 use Rattle.text.specs.declared.Kind.the-variants.{Single, Letter, Digit, Outside}
-use Rattle.text.specs.Forms.{Form, meets, Got, got, fault, andThen, unwanted, follow, filled}
-use Rattle.text.specs.Document.{Cut, Document, Verb, WellFormed, written, first-line, from, a-cut, line-end, estimates-line, an-order, opening, closing, space, orders-text, verb, numbers}
+use Rattle.text.specs.Forms.{meets, Got, got, fault, andThen, follow, filled}
+use Rattle.text.specs.Document.{Cut, Document, Verb, written, first-line, from, a-cut, line-end, estimates-line, an-order, opening, closing, space, orders-text, verb, numbers}
 use Rattle.text.specs.declared.Order.{Order}
 use Rattle.text.specs.Reading.{cut-of, order-of, verb-of, cuts-from, lines-from, order-from, orders-from, body, document, parsed}
-use Rattle.blank.specs.Table.{Passes, Bad, Worst}
-use Rattle.text.specs.Rows.{rows-of}
-use Rattle.text.specs.Verdicts.{Verdict, accepted, refused, Checked, Concludes, Says}
+use Rattle.text.specs.Verdicts.{Verdict, accepted, refused, Concludes}
 use Rattle.text.specs.Causes.{Starts, at-first, at-next}
 use Rattle.text.specs.Promises.{Written-once, Verdict-once, Faults-are-real}
 use Rattle.text.proofs.Marks.{begins-with, end-empty}
-use Rattle.text.proofs.Forms.{apart, Went, went, goes, before, behind, where-fault, Followed, follow-sound}
+use Rattle.text.proofs.Forms.{apart, went, before, behind, where-fault, Followed, follow-sound}
 use Rattle.text.proofs.Cuts.{never}
-use Rattle.text.proofs.Orders.{order-by, OrderRead, order-sound, orders-sound, orders-complete}
+use Rattle.text.proofs.Orders.{order-by, order-sound, orders-sound, orders-complete}
 use Rattle.text.proofs.Documents.{document-complete, doc, counts, by-count, after-head, parsed-short, parsed-long, Refusal, long, stopped, checked, refusal}
-use Rattle.text.proofs.Local.{Steps, no-step, a-step, Again, again-as, GotAgain, FaultAgain, Local, local-got, local-third, local-same, local-then, local-choice, local-unwanted, follow-local}
+use Rattle.text.proofs.Local.{Steps, no-step, a-step, Again, again-as, FaultAgain, Local, local-got, local-third, local-same, local-then, local-choice, local-unwanted, follow-local}
 
 -- The cut too many, told at its bracket.
 one-too-many : ℕ → List ℕ → Got (List Cut)

@@ -1,18 +1,17 @@
 -- The reading of a text that has as many cuts as it may have stops at the bracket of the next one.
-use mathlib.Core.Path.{_≡_, refl, sym, _∙_, ap, subst}
-use mathlib.Core.Bool.{true, false}
+use mathlib.Core.Path.{_≡_, refl, sym, _∙_, ap}
 use mathlib.Core.List.{List, [], _∷_, _++_}
-use Prim.Native.Nat.{ℕ, zero, suc, _+_, _-_, _≤_, _<_}
-use native.Mathlib.Nat.{add-zero, zero-add}
+use Prim.Native.Nat.{ℕ, zero, suc, _+_, _-_, _<_}
+use native.Mathlib.Nat.{zero-add}
 use native.Mathlib.Omega.{arith}
 use lib.ListN.{length}
 use Rattle.std.specs.shelf.Lists.{All}
 use Rattle.std.proofs.shelf.Lists.{append-assoc, length-append}
 use Rattle.text.specs.Marks.{isDigit}
 use Rattle.text.specs.Forms.{filled, Got, got, fault, andThen, follow}
-use Rattle.text.specs.Document.{Cut, Document, Short, ShortCut, total, first-line, from, a-cut, cuts-text, lines-text, estimates-line}
-use Rattle.text.specs.Reading.{cuts-from, lines-from, orders-from, body, document}
-use Rattle.text.specs.Causes.{bare-cuts, Full, Headed}
+use Rattle.text.specs.Document.{Cut, Short, ShortCut, total, first-line, from, a-cut, cuts-text, lines-text, estimates-line}
+use Rattle.text.specs.Reading.{cuts-from, lines-from, orders-from, document}
+use Rattle.text.specs.Causes.{bare-cuts, Full}
 use Rattle.text.proofs.Runs.{Stops}
 use Rattle.text.proofs.Forms.{goes}
 use Rattle.text.proofs.Cuts.{cut-read, from-read, line-read}

@@ -1,27 +1,23 @@
 -- What a reading comes to hangs on nothing behind the mark that it stopped at.
 use mathlib.Core.Path.{_≡_, refl, sym, _∙_, ap, subst}
 use mathlib.Core.List.{List, [], _∷_, _++_}
-use mathlib.Core.Bool.{Bool, true, false, cond, _&&_}
-use Prim.Native.Nat.{ℕ, zero, suc, _+_, _-_, _≤_, _<_}
-use native.Mathlib.Nat.{add-zero, add-assoc}
+use mathlib.Core.Bool.{Bool, true, false, cond}
+use Prim.Native.Nat.{ℕ, _+_, _≤_, _<_}
+use native.Mathlib.Nat.{add-zero}
 use native.Mathlib.Omega.{arith}
 use native.Mathlib.Numerals.{one-add}
-use lib.ListN.{length, getD, take, drop}
+use lib.ListN.{length, take, drop}
 use lib.Dec.{eqb}
 use Rattle.std.specs.shelf.Lists.{leading}
-use Rattle.std.specs.declared.option.Option.{Option}
-use Rattle.std.specs.declared.option.Option.the-variants.{Some, None}
-use Rattle.std.proofs.shelf.Lists.{append-assoc, length-append, append-nil, take-append-drop, length-take-le, drop-at}
+use Rattle.std.proofs.shelf.Lists.{append-assoc, length-append, take-append-drop, length-take-le, drop-at}
 use Rattle.std.proofs.shelf.Sums.{leading-le-length}
-use Rattle.std.proofs.shelf.Ways.{tells}
-use Rattle.text.specs.Marks.{Mark, sign, word, number, end, bad, isLetter, isDigit, isSingle, kind, markOf, widthOf, next, width, figures, badlyWritten}
+use Rattle.text.specs.Marks.{Mark, sign, word, number, end, bad, isLetter, isDigit, kind, markOf, widthOf, next, width, figures, badlyWritten}
 use Rattle.text.specs.declared.Kind.{Kind}
 use Rattle.text.specs.declared.Kind.the-variants.{Single, Letter, Digit, Outside}
-use Rattle.text.specs.Forms.{Want, Form, meets, keeps, Got, got, fault, andThen, unwanted, follow}
-use Rattle.text.proofs.Runs.{Every, Stops, front-passes, leading-some, kind-letter, kind-digit, kind-single, letter-kind, digit-kind}
-use Rattle.text.proofs.Marks.{end-empty, Shows, shows-word, shows-figures}
-use Rattle.text.proofs.Forms.{apart, Went, went, goes, never-got, unwanted-place, before, behind, where-fault}
-use Rattle.text.proofs.Cuts.{never}
+use Rattle.text.specs.Forms.{Form, meets, keeps, Got, got, fault, andThen, unwanted, follow}
+use Rattle.text.proofs.Runs.{Stops, front-passes, leading-some, kind-letter, kind-digit, letter-kind, digit-kind}
+use Rattle.text.proofs.Marks.{end-empty, shows-word, shows-figures}
+use Rattle.text.proofs.Forms.{apart, went, goes, never-got, unwanted-place, before, behind, where-fault}
 
 -- The mark in hand tells whether a letter, or a digit, stands first.
 firstly : (ℕ → Bool) → List ℕ → Bool

@@ -1,6 +1,6 @@
 -- What the reader makes of every row of bytes, up to the table's checks.
-use mathlib.Core.List.{List, [], _∷_, _++_}
-use mathlib.Core.Bool.{Bool, true, false, cond, _&&_}
+use mathlib.Core.List.{List, [], _∷_}
+use mathlib.Core.Bool.{true, false, cond, _&&_}
 use Prim.Native.Nat.{ℕ, zero, suc, _-_}
 use lib.ListN.{length, getD}
 use lib.Dec.{leb}
@@ -8,7 +8,7 @@ use Rattle.std.specs.shelf.Text.{sameBytes}
 use Rattle.std.specs.declared.option.Option.{Option}
 use Rattle.std.specs.declared.option.Option.the-variants.{Some, None}
 use Rattle.text.specs.Marks.{Mark, sign, word, number, end, bad, next}
-use Rattle.text.specs.Forms.{Form, Got, got, fault, andThen, unwanted, follow, meets, the-sign, the-word}
+use Rattle.text.specs.Forms.{Got, got, fault, andThen, unwanted, follow, meets}
 use Rattle.text.specs.Document.{Cut, Document, Verb, ratio-verb, work-verb, ceiling-verb, show-verb, route-verb, named, an-order, first-line, from, a-cut, line-end, estimates-line, opening, closing, space}
 use Rattle.text.specs.declared.Order.{Order}
 use Rattle.text.specs.declared.Order.the-variants.{Ratio, Work, Ceiling, Show, Route}

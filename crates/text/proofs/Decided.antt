@@ -1,6 +1,6 @@
 -- Every text has a verdict: the checks can be decided, and where one fails there is a smallest cause with a least place.
-use mathlib.Core.Path.{_≡_, refl, sym, _∙_, ap, subst}
-use mathlib.Core.List.{List, [], _∷_, _++_}
+use mathlib.Core.Path.{_≡_, refl, sym, subst}
+use mathlib.Core.List.{List, [], _∷_}
 use mathlib.Core.Logic.{_⊎_, inl, inr}
 use Prim.Native.Nat.{ℕ, zero, suc, _+_, _-_, _≤_, _<_}
 use native.Mathlib.Omega.{arith}
@@ -11,7 +11,7 @@ use Rattle.text.specs.Document.{Document}
 use Rattle.text.specs.Reading.{parsed}
 use Rattle.blank.specs.Table.{Rows, states, Shape, Ends, Holds, GoodTarget, GoodCost, GoodEstimate, GoodSlope, Bad, shape, ends, target, cost, estimate, slope, Passes, Worst}
 use Rattle.text.specs.Rows.{rows-of}
-use Rattle.text.specs.Verdicts.{Verdict, accepted, refused, Checked, Concludes, Says}
+use Rattle.text.specs.Verdicts.{Verdict, accepted, refused, Concludes}
 use Rattle.text.specs.Promises.{Verdict-stands}
 
 abbrev Decided : Type 0 → Type 0
@@ -137,53 +137,24 @@ d-estimate r s =
 by-state : (r : Rows) (G : ℕ → ℕ → Type 0) → ((u e : ℕ) → Decided (G u e)) → (e : ℕ) → Decided ((u : ℕ) × (Holds r u e × (G u e → ⊥)))
 by-state r G d e = d-some (λ u. Holds r u e × (G u e → ⊥)) (λ u. d-and (d-holds r u e) (d-not (d u e))) (states r) (λ u h. h .0 .state)
 
-bad-seven : (r : Rows) (c e : ℕ) → Bad r c e → c ≡ 7 → (u : ℕ) × (Holds r u e × (GoodTarget r u e → ⊥))
-bad-seven r c e (shape f) h = absurd (omega arith)
-bad-seven r c e (ends f) h = absurd (omega arith)
-bad-seven r c e (target u e1 k f) h = (u, (k, f))
-bad-seven r c e (cost e1 k f) h = absurd (omega arith)
-bad-seven r c e (estimate s k f) h = absurd (omega arith)
-bad-seven r c e (slope u e1 k f) h = absurd (omega arith)
+-- What is wrong with rows that are bad for each cause.
+pub bad-five : (r : Rows) (e : ℕ) → Bad r 5 e → (e ≡ 0) × (Shape r → ⊥)
+bad-five r e (shape f) = (refl, f)
 
-bad-ten : (r : Rows) (c e : ℕ) → Bad r c e → c ≡ 10 → (u : ℕ) × (Holds r u e × (GoodSlope r u e → ⊥))
-bad-ten r c e (shape f) h = absurd (omega arith)
-bad-ten r c e (ends f) h = absurd (omega arith)
-bad-ten r c e (target u e1 k f) h = absurd (omega arith)
-bad-ten r c e (cost e1 k f) h = absurd (omega arith)
-bad-ten r c e (estimate s k f) h = absurd (omega arith)
-bad-ten r c e (slope u e1 k f) h = (u, (k, f))
+bad-six : (r : Rows) (e : ℕ) → Bad r 6 e → (e ≡ 0) × (Ends r → ⊥)
+bad-six r e (ends f) = (refl, f)
 
-bad-five : (r : Rows) (c e : ℕ) → Bad r c e → c ≡ 5 → (e ≡ 0) × (Shape r → ⊥)
-bad-five r c e (shape f) h = (refl, f)
-bad-five r c e (ends f) h = absurd (omega arith)
-bad-five r c e (target u e1 k f) h = absurd (omega arith)
-bad-five r c e (cost e1 k f) h = absurd (omega arith)
-bad-five r c e (estimate s k f) h = absurd (omega arith)
-bad-five r c e (slope u e1 k f) h = absurd (omega arith)
+bad-seven : (r : Rows) (e : ℕ) → Bad r 7 e → (u : ℕ) × (Holds r u e × (GoodTarget r u e → ⊥))
+bad-seven r e (target u e1 k f) = (u, (k, f))
 
-bad-six : (r : Rows) (c e : ℕ) → Bad r c e → c ≡ 6 → (e ≡ 0) × (Ends r → ⊥)
-bad-six r c e (shape f) h = absurd (omega arith)
-bad-six r c e (ends f) h = (refl, f)
-bad-six r c e (target u e1 k f) h = absurd (omega arith)
-bad-six r c e (cost e1 k f) h = absurd (omega arith)
-bad-six r c e (estimate s k f) h = absurd (omega arith)
-bad-six r c e (slope u e1 k f) h = absurd (omega arith)
+bad-eight : (r : Rows) (e : ℕ) → Bad r 8 e → (e < length (r .costs)) × (GoodCost (getD (r .costs) e 0) → ⊥)
+bad-eight r e (cost e1 k f) = (k, f)
 
-bad-eight : (r : Rows) (c e : ℕ) → Bad r c e → c ≡ 8 → (e < length (r .costs)) × (GoodCost (getD (r .costs) e 0) → ⊥)
-bad-eight r c e (shape f) h = absurd (omega arith)
-bad-eight r c e (ends f) h = absurd (omega arith)
-bad-eight r c e (target u e1 k f) h = absurd (omega arith)
-bad-eight r c e (cost e1 k f) h = (k, f)
-bad-eight r c e (estimate s k f) h = absurd (omega arith)
-bad-eight r c e (slope u e1 k f) h = absurd (omega arith)
+bad-nine : (r : Rows) (e : ℕ) → Bad r 9 e → (e < states r) × (GoodEstimate r e → ⊥)
+bad-nine r e (estimate s k f) = (k, f)
 
-bad-nine : (r : Rows) (c e : ℕ) → Bad r c e → c ≡ 9 → (e < states r) × (GoodEstimate r e → ⊥)
-bad-nine r c e (shape f) h = absurd (omega arith)
-bad-nine r c e (ends f) h = absurd (omega arith)
-bad-nine r c e (target u e1 k f) h = absurd (omega arith)
-bad-nine r c e (cost e1 k f) h = absurd (omega arith)
-bad-nine r c e (estimate s k f) h = (k, f)
-bad-nine r c e (slope u e1 k f) h = absurd (omega arith)
+bad-ten : (r : Rows) (e : ℕ) → Bad r 10 e → (u : ℕ) × (Holds r u e × (GoodSlope r u e → ⊥))
+bad-ten r e (slope u e1 k f) = (u, (k, f))
 
 bad-cause : (r : Rows) (c e : ℕ) → Bad r c e → (5 ≤ c) × (c ≤ 10)
 bad-cause r c e (shape f) = (omega arith, omega arith)
@@ -206,44 +177,44 @@ past-top r u e h = omega (arith, h .before, under-top (r .firsts) (u + 1))
 for-five : (r : Rows) → For r 5
 for-five r =
     elim (d-shape r) [
-      | inl s ↦ inr (λ e x. bad-five r 5 e x refl .1 s)
+      | inl s ↦ inr (λ e x. bad-five r e x .1 s)
       | inr f ↦ inl (record { at = 0; holds = shape f; least = λ k x. omega arith })
     ]
 
 for-six : (r : Rows) → For r 6
 for-six r =
     elim (d-ends r) [
-      | inl s ↦ inr (λ e x. bad-six r 6 e x refl .1 s)
+      | inl s ↦ inr (λ e x. bad-six r e x .1 s)
       | inr f ↦ inl (record { at = 0; holds = ends f; least = λ k x. omega arith })
     ]
 
 for-seven : (r : Rows) → For r 7
 for-seven r =
     for-cause r 7 (top (r .firsts))
-    (λ e. d-as (λ x. target (x .0) e (x .1 .0) (x .1 .1)) (λ x. bad-seven r 7 e x refl) (by-state r (GoodTarget r) (d-target r) e))
-    (λ e x. let y = bad-seven r 7 e x refl in past-top r (y .0) e (y .1 .0))
+    (λ e. d-as (λ x. target (x .0) e (x .1 .0) (x .1 .1)) (λ x. bad-seven r e x) (by-state r (GoodTarget r) (d-target r) e))
+    (λ e x. let y = bad-seven r e x in past-top r (y .0) e (y .1 .0))
 
 for-eight : (r : Rows) → For r 8
 for-eight r =
     for-cause r 8 (length (r .costs))
     (λ e.
-    d-as (λ x. cost e (x .0) (x .1)) (λ x. bad-eight r 8 e x refl)
+    d-as (λ x. cost e (x .0) (x .1)) (λ x. bad-eight r e x)
     (d-and (d-le (suc e) (length (r .costs))) (d-not (d-and (d-le 1 (getD (r .costs) e 0)) (d-le (getD (r .costs) e 0) 1000)))))
-    (λ e x. bad-eight r 8 e x refl .0)
+    (λ e x. bad-eight r e x .0)
 
 for-nine : (r : Rows) → For r 9
 for-nine r =
     for-cause r 9 (states r)
-    (λ e. d-as (λ x. estimate e (x .0) (x .1)) (λ x. bad-nine r 9 e x refl) (d-and (d-le (suc e) (states r)) (d-not (d-estimate r e))))
-    (λ e x. bad-nine r 9 e x refl .0)
+    (λ e. d-as (λ x. estimate e (x .0) (x .1)) (λ x. bad-nine r e x) (d-and (d-le (suc e) (states r)) (d-not (d-estimate r e))))
+    (λ e x. bad-nine r e x .0)
 
 for-ten : (r : Rows) → For r 10
 for-ten r =
     for-cause r 10 (top (r .firsts))
     (λ e.
-    d-as (λ x. slope (x .0) e (x .1 .0) (x .1 .1)) (λ x. bad-ten r 10 e x refl)
+    d-as (λ x. slope (x .0) e (x .1 .0) (x .1 .1)) (λ x. bad-ten r e x)
     (by-state r (GoodSlope r) (λ u e. d-le (getD (r .estimates) u 0) (getD (r .costs) e 0 + getD (r .estimates) (getD (r .targets) e 0) 0)) e))
-    (λ e x. let y = bad-ten r 10 e x refl in past-top r (y .0) e (y .1 .0))
+    (λ e x. let y = bad-ten r e x in past-top r (y .0) e (y .1 .0))
 
 -- The verdict on rows, where no cause below c applies.
 abbrev From : Rows → ℕ → Type 0

@@ -2,27 +2,27 @@
 use mathlib.Core.Path.{_≡_, refl, sym, _∙_, ap, subst}
 use mathlib.Core.List.{List, [], _∷_, _++_}
 use mathlib.Core.Bool.{Bool, true, false, _&&_}
-use Prim.Native.Nat.{ℕ, zero, suc, _+_, _≤_, _<_}
+use Prim.Native.Nat.{ℕ, _+_, _≤_, _<_}
 use native.Mathlib.Nat.{zero-add, le-refl}
 use native.Mathlib.Omega.{arith}
 use lib.ListN.{length, getD}
 use lib.Dec.{leb}
-use Rattle.std.specs.shelf.Lists.{All}
-use Rattle.std.proofs.shelf.Lists.{append-assoc, length-append, append-nil}
-use Rattle.std.proofs.shelf.Tests.{and-parts, and-from, leb-true, le-leb}
+use Rattle.std.proofs.shelf.Lists.{length-append, append-nil}
+use Rattle.std.proofs.shelf.Tests.{and-parts, and-from, leb-true, leb-false, le-leb, lt-leb}
 use Rattle.text.specs.Forms.{filled, Got, got, fault, andThen, follow}
 use Rattle.text.specs.Document.{Cut, Document, Short, WellFormed, written, first-line, estimates-line, lines-text, orders-text}
 use Rattle.text.specs.declared.Order.{Order}
 use Rattle.text.specs.Reading.{lines-from, orders-from, body, document, parsed}
-use Rattle.blank.specs.Table.{Passes}
+use Rattle.blank.specs.Table.{Worst}
 use Rattle.text.specs.Rows.{rows-of}
-use Rattle.text.specs.Verdicts.{Verdict, accepted, refused, Checked, Concludes, Says}
+use Rattle.text.specs.Verdicts.{accepted, refused, Concludes, Says}
+use Rattle.text.specs.Causes.{Allowed}
 use Rattle.text.specs.Promises.{Writes, Accepted-is-written}
-use Rattle.text.proofs.Forms.{Went, went, goes, Took, took-both, Fits, Followed, follow-sound, Spaced}
-use Rattle.text.proofs.Cuts.{never, follow-to, LinesRead, lines-sound, lines-complete}
-use Rattle.text.proofs.Orders.{spaced-fits, fits-spaced, spaced-stops, spaced-spaced, OrdersRead, orders-sound, orders-complete}
+use Rattle.text.proofs.Forms.{went, goes, Fits, follow-sound, Spaced}
+use Rattle.text.proofs.Cuts.{never, follow-to, lines-sound, lines-complete}
+use Rattle.text.proofs.Orders.{spaced-fits, fits-spaced, spaced-stops, spaced-spaced, orders-sound, orders-complete}
 
-abbrev doc : ℕ → ℕ → ℕ → List (List Cut) → List ℕ → List Order → Document
+abbrev pub doc : ℕ → ℕ → ℕ → List (List Cut) → List ℕ → List Order → Document
 doc n s g css hs os = record { states = n; start = s; goal = g; cuts = css; estimates = hs; orders = os }
 
 -- What the body of a text was read from.
@@ -115,23 +115,38 @@ pub record Parsed (text : List ℕ) (d : Document) : Type 0 where
   pub is : text ≡ written d
   pub well : WellFormed d
 
-after-first-line : (text : List ℕ) → List ℕ → ℕ → List ℕ → Got Document
-after-first-line text ns q rest =
-    elim (leb 2 (getD ns 0 0) && leb (getD ns 0 0) 1024) [ true ↦ body (getD ns 0 0) (getD ns 1 0) (getD ns 2 0) q rest | false ↦ fault 3 5 0 ]
+abbrev pub counts : ℕ → Bool
+counts n = leb 2 n && leb n 1024
+
+pub counts-true : (n : ℕ) → counts n ≡ true → Allowed n
+counts-true n e = let h = and-parts (leb 2 n) (leb n 1024) e in (leb-true 2 n (h .0), leb-true n 1024 (h .1))
+
+pub allowed-counts : (n : ℕ) → Allowed n → counts n ≡ true
+allowed-counts n h = and-from (leb 2 n) (leb n 1024) (le-leb 2 n (h .0)) (le-leb n 1024 (h .1))
+
+pub counts-false : (n : ℕ) → counts n ≡ false → Allowed n → ⊥
+counts-false n e h = let t = allowed-counts n h in let z : _≡_ {A = ℕ} 0 1 = cc in omega arith
+
+-- What is made of the bytes behind a first line that was read to say ns, by whether the number of states is allowed.
+abbrev pub by-count : List ℕ → ℕ → List ℕ → Bool → Got Document
+by-count ns q rest b = elim b [ true ↦ body (getD ns 0 0) (getD ns 1 0) (getD ns 2 0) q rest | false ↦ fault 3 5 0 ]
+
+unfoldable pub after-head : List ℕ → ℕ → List ℕ → Got Document
+after-head ns q rest = by-count ns q rest (counts (getD ns 0 0))
 
 pub document-sound : (text : List ℕ) (d : Document) (q : ℕ) (rest : List ℕ) → document text ≡ got d q rest → Parsed text d
-unfolding after-first-line
+unfolding after-head
 document-sound text d q rest e =
-    let w = went (follow first-line 0 text) (after-first-line text) d q rest e in
+    let w = went (follow first-line 0 text) after-head d q rest e in
     let f = follow-sound first-line 0 text (w .thing) (w .place) (w .left) (w .first) in
-    go (w .thing) (w .place) (w .left) (leb 2 (getD (w .thing) 0 0) && leb (getD (w .thing) 0 0) 1024) refl (three (w .thing) (f .fits)) (f .took .splits) (w .second)
+    go (w .thing) (w .place) (w .left) (counts (getD (w .thing) 0 0)) refl (three (w .thing) (f .fits)) (f .took .splits) (w .second)
   where
     go :
-        (ns : List ℕ) (p : ℕ) (bs : List ℕ) (t : Bool) → (leb 2 (getD ns 0 0) && leb (getD ns 0 0) 1024) ≡ t → Three ns → text ≡ filled first-line ns ++ bs
-        → elim t [ true ↦ body (getD ns 0 0) (getD ns 1 0) (getD ns 2 0) p bs | false ↦ fault 3 5 0 ] ≡ got d q rest → Parsed text d
+        (ns : List ℕ) (p : ℕ) (bs : List ℕ) (t : Bool)
+        → counts (getD ns 0 0) ≡ t → Three ns → text ≡ filled first-line ns ++ bs → by-count ns p bs t ≡ got d q rest → Parsed text d
     go ns p bs true t h s e =
         let n = getD ns 0 0 in
-        let range = and-parts (leb 2 n) (leb n 1024) t in
+        let range = counts-true n t in
         let b = body-sound n (getD ns 1 0) (getD ns 2 0) p bs d q rest e in
         let line : filled first-line ns ≡ filled first-line (d .states ∷ d .start ∷ d .goal ∷ []) =
         ap (filled first-line)
@@ -143,7 +158,7 @@ document-sound text d q rest e =
               s ∙ ap (λ z. z ++ bs) line
               ∙ ap (λ z. filled first-line (d .states ∷ d .start ∷ d .goal ∷ []) ++ z)
               (b .is ∙ ap (λ z. lines-text 0 (d .cuts) ++ (filled (estimates-line z) (d .estimates) ++ orders-text (d .orders))) (sym (b .states)));
-          well = b .well (leb-true 2 n (range .0)) (leb-true n 1024 (range .1)) (h .start-short) (h .goal-short);
+          well = b .well (range .0) (range .1) (h .start-short) (h .goal-short);
         }
     go ns p bs false t h s e = never 3 5 0 d q rest e
 
@@ -199,28 +214,60 @@ body-complete d p q h e =
 first-line-spaced : (rest : List ℕ) → Spaced first-line rest
 first-line-spaced rest = (refl, (omega arith, (refl, (refl, (refl, (refl, tt)))), (λ _. refl), (refl, ((λ _. refl), (refl, (refl, (omega arith, (refl, (refl, (refl, (refl, (refl, tt))))), (λ _. refl), (refl, ((λ _. refl), (refl, (refl, (refl, (omega arith, (refl, (refl, (refl, (refl, tt)))), (λ _. refl), (refl, ((λ _. refl), (refl, (refl, (refl, tt))))))))))))))))))
 
+-- A first line is read, whatever follows it.
+pub first-line-read :
+    (n s g : ℕ) (rest : List ℕ)
+    → Short n → Short s → Short g
+    → follow first-line 0 (filled first-line (n ∷ s ∷ g ∷ []) ++ rest) ≡ got (n ∷ s ∷ g ∷ []) (length (filled first-line (n ∷ s ∷ g ∷ []))) rest
+first-line-read n s g rest ns ss gs =
+    let line = filled first-line (n ∷ s ∷ g ∷ []) in
+    follow-to first-line (n ∷ s ∷ g ∷ []) 0 (length line) (line ++ rest) rest (ns, (ss, (gs, refl))) (first-line-spaced rest) refl (sym (zero-add (length line)))
+
 pub document-complete : (d : Document) → WellFormed d → document (written d) ≡ got d (length (written d)) []
-unfolding after-first-line
+unfolding after-head
 document-complete d h =
     let ns : List ℕ = d .states ∷ d .start ∷ d .goal ∷ [] in
     let one = filled first-line ns in
     let more = lines-text 0 (d .cuts) ++ (filled (estimates-line (d .states)) (d .estimates) ++ orders-text (d .orders)) in
     let long = length-append one more in
     let short : Short (d .states) = omega (arith, h .few) in
-    goes (follow first-line 0 (one ++ more)) (after-first-line (written d)) ns (length one) more (got d (length (one ++ more)) [])
-    (follow-to first-line ns 0 (length one) (one ++ more) more (short, (h .start-short, (h .goal-short, refl)))
-    (first-line-spaced more)
-    refl
-    (sym (zero-add (length one))))
-    (ap turn (and-from (leb 2 (d .states)) (leb (d .states) 1024) (le-leb 2 (d .states) (h .enough)) (le-leb (d .states) 1024 (h .few)))
+    goes (follow first-line 0 (one ++ more)) after-head ns (length one) more (got d (length (one ++ more)) [])
+    (first-line-read (d .states) (d .start) (d .goal) more short (h .start-short) (h .goal-short))
+    (ap (by-count ns (length one) more) (allowed-counts (d .states) (h .enough, h .few))
     ∙ body-complete d (length one) (length (one ++ more)) h long)
+
+parsed-by : List ℕ → Bool → Got Document
+parsed-by text b = elim b [ true ↦ document text | false ↦ fault 2 4 60000 ]
+
+pub parsed-short : (text : List ℕ) → length text ≤ 60000 → parsed text ≡ document text
+unfolding parsed-by
+parsed-short text h = ap (parsed-by text) (le-leb (length text) 60000 h)
+
+pub parsed-long : (text : List ℕ) → 60000 < length text → parsed text ≡ fault 2 4 60000
+unfolding parsed-by
+parsed-long text h = ap (parsed-by text) (lt-leb (length text) 60000 h)
+
+-- The three ways to a refusal: the text is too long, its reading stopped, or the table of what was read has something wrong.
+pub data Refusal (text : List ℕ) (l c p : ℕ) : Type 0 where
+  long : 60000 < length text → l ≡ 2 → c ≡ 4 → p ≡ 60000 → Refusal text l c p
+  stopped : length text ≤ 60000 → document text ≡ fault l c p → Refusal text l c p
+  checked : (d : Document) → Parsed text d → l ≡ 3 → Worst (rows-of d) c p → Refusal text l c p
+
+pub refusal : (text : List ℕ) (l c p : ℕ) → Says text (refused l c p) → Refusal text l c p
+unfolding parsed-by
+refusal text l c p says = over (leb (length text) 60000) refl says
   where
-    turn : Bool → Got Document
-    turn b =
-        elim b [
-          | true ↦ body (d .states) (d .start) (d .goal) (length (filled first-line (d .states ∷ d .start ∷ d .goal ∷ []))) (lines-text 0 (d .cuts) ++ (filled (estimates-line (d .states)) (d .estimates) ++ orders-text (d .orders)))
-          | false ↦ fault 3 5 0
-        ]
+    inner : length text ≤ 60000 → (g : Got Document) → document text ≡ g → Concludes g (refused l c p) → Refusal text l c p
+    inner h (got d q bs) e s = checked d (document-sound text d q bs e) (s .0) (s .1)
+    inner h (fault i j k) e s =
+        let a : i ≡ l = cc in
+        let b : j ≡ c = cc in
+        let m : k ≡ p = cc in
+        stopped h (e ∙ ap (λ z. fault z j k) a ∙ ap (λ z. fault l z k) b ∙ ap (λ z. fault l c z) m)
+
+    over : (b : Bool) → leb (length text) 60000 ≡ b → Concludes (parsed-by text b) (refused l c p) → Refusal text l c p
+    over true t s = inner (leb-true (length text) 60000 t) (document text) refl s
+    over false t s = long (leb-false (length text) 60000 t) (cc) (cc) (cc)
 
 pub record Fitting (text : List ℕ) (d : Document) : Type 0 where
   pub is : Parsed text d
@@ -234,10 +281,7 @@ parsed-sound text d q rest e = go (leb (length text) 60000) refl e
     go false t e = never 2 4 60000 d q rest e
 
 pub parsed-complete : (d : Document) → WellFormed d → length (written d) ≤ 60000 → parsed (written d) ≡ got d (length (written d)) []
-parsed-complete d h fits = ap turn (le-leb (length (written d)) 60000 fits) ∙ document-complete d h
-  where
-    turn : Bool → Got Document
-    turn b = elim b [ true ↦ document (written d) | false ↦ fault 2 4 60000 ]
+parsed-complete d h fits = parsed-short (written d) fits ∙ document-complete d h
 
 pub accepted-is-written : Accepted-is-written
 accepted-is-written text d = (λ h. from (parsed text) refl h, λ w. to w)

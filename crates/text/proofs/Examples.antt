@@ -5,7 +5,7 @@ use Prim.Native.Nat.{ℕ}
 use Rattle.std.specs.Written.{digits}
 use lib.Chars.{codes}
 use Rattle.text.specs.Forms.{got, fault}
-use Rattle.text.specs.Document.{Document, Cut, written}
+use Rattle.text.specs.Document.{Document, written}
 use Rattle.text.specs.declared.Order.the-variants.{Ratio, Work, Show}
 use Rattle.text.specs.Reading.{parsed}
 
@@ -46,3 +46,7 @@ glued = refl
 
 leading-nought : parsed (codes "(007") ≡ fault 1 2 1
 leading-nought = refl
+
+bad-count : parsed (line (codes "(last 1 (start 0) (goal 0))")) ≡ fault 3 5 0
+unfolding line
+bad-count = refl

@@ -1,45 +1,34 @@
 -- The faults of layers 1 and 2 are real: nothing behind the mark at the place told can mend the text.
 use mathlib.Core.Path.{_≡_, refl, sym, _∙_, ap, subst}
 use mathlib.Core.List.{List, [], _∷_, _++_}
-use mathlib.Core.Bool.{Bool, true, false, cond, _&&_}
-use mathlib.Core.Logic.{_⊎_, inl, inr}
-use Prim.Native.Nat.{ℕ, zero, suc, _+_, _-_, _≤_, _<_, max}
-use native.Mathlib.Nat.{add-zero, zero-add, le-refl}
+use mathlib.Core.Bool.{Bool, true, false, cond}
+use mathlib.Core.Logic.{inl, inr}
+use Prim.Native.Nat.{ℕ, zero, suc, _+_, _-_, _≤_}
+use native.Mathlib.Nat.{le-refl}
 use native.Mathlib.Omega.{arith}
 use lib.ListN.{length, getD, take, drop}
-use lib.Dec.{leb}
 use Rattle.std.specs.Reads.{value}
 use Rattle.std.specs.shelf.Lists.{leading}
 use Rattle.std.specs.declared.option.Option.{Option}
 use Rattle.std.specs.declared.option.Option.the-variants.{Some, None}
-use Rattle.std.proofs.shelf.Lists.{append-assoc, length-append, append-nil, take-append-drop, take-at, drop-at, drop-all, append-cancel-left}
-use Rattle.std.proofs.shelf.Tests.{leb-true, leb-false, cases-lt}
-use Rattle.text.specs.Marks.{Mark, sign, word, number, end, bad, isDigit, kind, markOf, next, width, figures, badlyWritten}
+use Rattle.std.proofs.shelf.Lists.{length-append, append-nil, take-append-drop, take-at, drop-at, drop-all, drop-drop, append-cancel-left}
+use Rattle.std.proofs.shelf.Tests.{cases-lt}
+use Rattle.text.specs.Marks.{Mark, sign, word, number, end, bad, isDigit, kind, markOf, next, width, badlyWritten}
 use Rattle.text.specs.declared.Kind.{Kind}
 use Rattle.text.specs.declared.Kind.the-variants.{Single, Letter, Digit, Outside}
-use Rattle.text.specs.Forms.{Form, meets, Got, got, fault, andThen, unwanted, follow, filled}
-use Rattle.text.specs.Document.{Cut, Document, Verb, WellFormed, written, first-line, from, a-cut, line-end, estimates-line, an-order, opening, closing, space, orders-text, verb, numbers}
+use Rattle.text.specs.Forms.{meets, Got, got, fault, andThen, follow, filled}
+use Rattle.text.specs.Document.{Cut, Document, Verb, written, first-line, from, a-cut, line-end, estimates-line, an-order, opening, closing, space, orders-text, verb, numbers}
 use Rattle.text.specs.declared.Order.{Order}
 use Rattle.text.specs.Reading.{cut-of, order-of, verb-of, cuts-from, lines-from, order-from, orders-from, body, document, parsed}
-use Rattle.blank.specs.Table.{Passes, Bad, Worst}
-use Rattle.text.specs.Rows.{rows-of}
-use Rattle.text.specs.Verdicts.{Verdict, accepted, refused, Checked, Concludes, Says}
+use Rattle.text.specs.Verdicts.{Verdict, accepted, refused, Concludes}
+use Rattle.text.specs.Causes.{Starts, at-first, at-next}
 use Rattle.text.specs.Promises.{Written-once, Verdict-once, Faults-are-real}
-use Rattle.text.proofs.Marks.{Begins, Stands, next-stands}
-use Rattle.text.proofs.Forms.{Went, went, goes, never-got, follow-sound}
+use Rattle.text.proofs.Marks.{begins-with, end-empty}
+use Rattle.text.proofs.Forms.{apart, went, before, behind, where-fault, Followed, follow-sound}
 use Rattle.text.proofs.Cuts.{never}
-use Rattle.text.proofs.Orders.{OrderRead, order-sound, orders-sound, orders-complete}
-use Rattle.text.proofs.Documents.{document-complete}
-use Rattle.text.proofs.Local.{Again, GotAgain, FaultAgain, Local, local-got, local-third, local-same, local-then, local-choice, local-unwanted, follow-local}
-
-apart : {A : Type 0} → _≡_ {A = ℕ} 0 1 → A
-apart z = absurd (omega arith)
-
--- What has the mark of a byte in hand begins with that byte.
-begins-with : (b : ℕ) (z : List ℕ) → next z ≡ sign b → z ≡ b ∷ drop (width z) z
-begins-with b z e =
-    let P : Mark → Type 0 = λ m. Stands m (width z) z in
-    subst P e (next-stands z) .splits
+use Rattle.text.proofs.Orders.{order-by, order-sound, orders-sound, orders-complete}
+use Rattle.text.proofs.Documents.{document-complete, doc, counts, by-count, after-head, parsed-short, parsed-long, Refusal, long, stopped, checked, refusal}
+use Rattle.text.proofs.Local.{Steps, no-step, a-step, Again, again-as, FaultAgain, Local, local-got, local-third, local-same, local-then, local-choice, local-unwanted, follow-local}
 
 -- The cut too many, told at its bracket.
 one-too-many : ℕ → List ℕ → Got (List Cut)
@@ -53,53 +42,47 @@ local-too-many =
           λ p bs a q rest e.
           let w = went (follow (space ∷ opening ∷ []) p bs) (λ ns q rest. fault 2 4 (q - 1)) a q rest e in
           never 2 4 (w .place - 1) a q rest (w .second);
-      faults = λ p bs l c q e small. go p bs l c q small (follow (space ∷ opening ∷ []) p bs) refl e;
+      faults =
+          λ p bs l c q e small.
+          elim (where-fault (follow (space ∷ opening ∷ []) p bs) one-more l c q e) [
+            | before h ↦
+                let u = follow-local (space ∷ opening ∷ []) .faults p bs l c q h small in
+                record {
+                  over = u .over;
+                  left = u .left;
+                  is = again-as one-too-many p bs (u .over) (u .left) q (λ z. fault l c q) (u .is) (λ z t. ap (λ x. andThen x one-more) (u .is .again z t));
+                }
+            | behind ns m rest h t ↦ stop p bs l c q ns m rest (follow-sound (space ∷ opening ∷ []) p bs ns m rest h) t
+          ];
     }
   where
-    k : List ℕ → ℕ → List ℕ → Got (List Cut)
-    k ns q rest = fault 2 4 (q - 1)
+    one-more : List ℕ → ℕ → List ℕ → Got (List Cut)
+    one-more ns q rest = fault 2 4 (q - 1)
 
-    go :
-        (p : ℕ) (bs : List ℕ) (l c q : ℕ) → l ≤ 2 → (x : Got (List ℕ)) → follow (space ∷ opening ∷ []) p bs ≡ x → andThen x k ≡ fault l c q
-        → FaultAgain one-too-many p bs l c q
-    go p bs l c q small (got ns m rest) e h =
-        let f = follow-sound (space ∷ opening ∷ []) p bs ns m rest e in
+    stop :
+        (p : ℕ) (bs : List ℕ) (l c q : ℕ) (ns : List ℕ) (m : ℕ) (rest : List ℕ)
+        → Followed (space ∷ opening ∷ []) p bs ns m rest → one-more ns m rest ≡ fault l c q → FaultAgain one-too-many p bs l c q
+    stop p bs l c q ns m rest f h =
         let la : 2 ≡ l = cc in
         let ca : 4 ≡ c = cc in
         let qa : m - 1 ≡ q = cc in
+        let there : p + 1 ≡ q = omega (arith, f .took .place, qa) in
         record {
           over = 32 ∷ [];
           left = 40 ∷ rest;
           is =
               record {
                 splits = f .took .splits;
-                place = omega (arith, f .took .place, qa);
+                place = sym there;
                 again =
                     λ z t.
-                    let s = begins-with 40 z t in
-                    ap (λ y. one-too-many p (32 ∷ y)) s
-                    ∙ ap (λ y. fault 2 4 y) (let d : p + 1 + 1 - 1 ≡ q = omega (arith, f .took .place, qa) in d)
+                    ap (λ y. one-too-many p (32 ∷ y)) (begins-with 40 z t) ∙ ap (λ y. fault 2 4 y) (let d : p + 1 + 1 - 1 ≡ q = omega arith in d)
                     ∙ ap (λ y. fault y 4 q) la
                     ∙ ap (λ y. fault l y q) ca;
                 same = λ z t. ap next (sym (f .took .splits));
-              };
-        }
-    go p bs l c q small (fault i j s) e h =
-        let a : i ≡ l = cc in
-        let b : j ≡ c = cc in
-        let d : s ≡ q = cc in
-        let u =
-        follow-local (space ∷ opening ∷ []) .faults p bs l c q (e ∙ ap (λ z. fault z j s) a ∙ ap (λ z. fault l z s) b ∙ ap (λ z. fault l c z) d) small
-        in
-        record {
-          over = u .over;
-          left = u .left;
-          is =
-              record {
-                splits = u .is .splits;
-                place = u .is .place;
-                again = λ z t. ap (λ x. andThen x k) (u .is .again z t);
-                same = u .is .same;
+                marks =
+                    let P : List ℕ → Type 0 = λ x. Steps p x q (40 ∷ rest) in
+                    subst P (sym (f .took .splits)) (a-step p (32 ∷ 40 ∷ rest) q (40 ∷ rest) (no-step (p + 1) (40 ∷ rest) q (40 ∷ rest) there refl));
               };
         }
 
@@ -144,17 +127,11 @@ lines-local (suc k) u room =
     local-then (lines-from k (suc u) (room - length cs)) (λ css q rest. got (cs ∷ css) q rest) (lines-local k (suc u) (room - length cs))
     (λ css. local-got (cs ∷ css))))
 
--- The order that a mark names, or none.
-pick : Option Verb → ℕ → List ℕ → Got Order
-pick x p bs = elim x [ Some v ↦ andThen (follow (an-order v) p bs) (λ ns q rest. got (order-of v ns) q rest) | None ↦ unwanted (next bs) p ]
-
-pick-local : (x : Option Verb) → Local (pick x)
-unfolding pick
+pick-local : (x : Option Verb) → Local (order-by x)
 pick-local (Some v) = local-then (follow (an-order v)) (λ ns q rest. got (order-of v ns) q rest) (follow-local (an-order v)) (λ ns. local-got (order-of v ns))
 pick-local None = local-unwanted
 
 order-local : Local order-from
-unfolding pick
 order-local =
     record {
       gots =
@@ -168,14 +145,8 @@ order-local =
     }
   where
     carry :
-        (p : ℕ) (bs x y : List ℕ) (q : ℕ) (out : List ℕ → Got Order) → Again (pick (verb-of (next bs))) p bs x y q out → Again order-from p bs x y q out
-    carry p bs x y q out h =
-        record {
-          splits = h .splits;
-          place = h .place;
-          again = λ z k. ap (λ v. pick v p (x ++ z)) (ap verb-of (h .same z k)) ∙ h .again z k;
-          same = h .same;
-        }
+        (p : ℕ) (bs x y : List ℕ) (q : ℕ) (out : List ℕ → Got Order) → Again (order-by (verb-of (next bs))) p bs x y q out → Again order-from p bs x y q out
+    carry p bs x y q out h = again-as order-from p bs x y q out h (λ z k. ap (λ v. order-by v p (x ++ z)) (ap verb-of (h .same z k)) ∙ h .again z k)
 
 -- The orders.
 at-end : Mark → Bool
@@ -282,14 +253,15 @@ all-orders-local =
                   place = s .took .place;
                   again =
                       λ z h.
-                      let none : z ≡ [] = empty z (h ∙ ap next (s .done)) in
+                      let none : z ≡ [] = end-empty z (h ∙ ap next (s .done)) in
                       ap (λ y. all-orders p (orders-text os ++ y)) none ∙ ap (all-orders p) (append-nil (orders-text os))
                       ∙ orders-complete os (length (orders-text os)) p q (s .short) (le-refl (length (orders-text os))) (s .took .place)
                       ∙ ap (λ y. got os q y) (sym none);
                   same =
                       λ z h.
-                      let none : z ≡ [] = empty z (h ∙ ap next (s .done)) in
+                      let none : z ≡ [] = end-empty z (h ∙ ap next (s .done)) in
                       ap (λ y. next (orders-text os ++ y)) (none ∙ sym (s .done)) ∙ ap next (sym (s .took .splits));
+                  marks = orders-local (length bs) .gots p bs os q rest e .is .marks;
                 };
           };
       faults =
@@ -299,20 +271,11 @@ all-orders-local =
             over = u .over;
             left = u .left;
             is =
-                record {
-                  splits = u .is .splits;
-                  place = u .is .place;
-                  again = λ z h. retry p bs l c q e small (u .over) (u .left) (u .is .splits) (u .is .place) z h;
-                  same = u .is .same;
-                };
+                again-as all-orders p bs (u .over) (u .left) q (λ z. fault l c q) (u .is)
+                (λ z h. retry p bs l c q e small (u .over) (u .left) (u .is .splits) (u .is .place) z h);
           };
     }
   where
-    empty : (z : List ℕ) → next z ≡ end → z ≡ []
-    empty z h =
-        let P : Mark → Type 0 = λ m. Stands m (width z) z in
-        subst P h (next-stands z)
-
     retry :
         (p : ℕ) (bs : List ℕ) (l c q : ℕ) → orders-from (length bs) p bs ≡ fault l c q → l ≤ 2 → (x y : List ℕ) → bs ≡ x ++ y → q ≡ p + length x
         → (z : List ℕ) → next z ≡ next y → orders-from (length (x ++ z)) p (x ++ z) ≡ fault l c q
@@ -325,9 +288,6 @@ all-orders-local =
         turns-same (length (x ++ z)) most p (x ++ z) (omega arith) (omega arith) ∙ ap (λ w. orders-from most p (w ++ z)) (sym (same .0))
         ∙ u .is .again z (h ∙ ap next (sym (same .1)))
 
-abbrev doc : ℕ → ℕ → ℕ → List (List Cut) → List ℕ → List Order → Document
-doc n s g css hs os = record { states = n; start = s; goal = g; cuts = css; estimates = hs; orders = os }
-
 body-local : (n s g : ℕ) → Local (body n s g)
 unfolding all-orders
 body-local n s g =
@@ -339,15 +299,11 @@ body-local n s g =
     (follow-local (estimates-line n))
     (λ hs. local-then all-orders (λ os q rest. got (doc n s g css hs os) q rest) all-orders-local (λ os. local-got (doc n s g css hs os))))
 
-after-head : List ℕ → ℕ → List ℕ → Got Document
-after-head ns q rest =
-    elim (leb 2 (getD ns 0 0) && leb (getD ns 0 0) 1024) [ true ↦ body (getD ns 0 0) (getD ns 1 0) (getD ns 2 0) q rest | false ↦ fault 3 5 0 ]
-
 after-head-local : (ns : List ℕ) → Local (after-head ns)
 unfolding after-head
-after-head-local ns = go (leb 2 (getD ns 0 0) && leb (getD ns 0 0) 1024)
+after-head-local ns = go (counts (getD ns 0 0))
   where
-    go : (t : Bool) → Local (λ q rest. elim t [ true ↦ body (getD ns 0 0) (getD ns 1 0) (getD ns 2 0) q rest | false ↦ fault 3 5 0 ])
+    go : (t : Bool) → Local (λ q rest. by-count ns q rest t)
     go true = body-local (getD ns 0 0) (getD ns 1 0) (getD ns 2 0)
     go false = local-third
 
@@ -369,48 +325,40 @@ document-fault text other l c p e small front mark =
     let whole : other ≡ x ++ drop p other = sym (take-append-drop p other) ∙ ap (λ z. z ++ drop p other) before in
     ap document whole ∙ u .is .again (drop p other) (mark ∙ ap next behind)
 
+-- The place of such a fault is where a mark begins.
+pub document-starts : (text : List ℕ) (l c p : ℕ) → document text ≡ fault l c p → l ≤ 2 → Starts text p
+unfolding after-head
+document-starts text l c p e small = let u = document-local .faults 0 text l c p e small in go 0 text p (u .left) refl at-first (u .is .marks)
+  where
+    go : (q : ℕ) (bs : List ℕ) (r : ℕ) (rest : List ℕ) → bs ≡ drop q text → Starts text q → Steps q bs r rest → Starts text r
+    go q bs r rest h s (no-step q1 b1 r1 t1 k j) = let P : ℕ → Type 0 = λ x. Starts text x in subst P k s
+    go q bs r rest h s (a-step q1 b1 r1 t1 t) =
+        let P : List ℕ → Type 0 = λ x. Starts text (q + width x) in
+        go (q + width bs) (drop (width bs) bs) r rest (ap (drop (width bs)) h ∙ drop-drop (width bs) q text) (subst P (sym h) (at-next q s)) t
+
 not-accepted : {A : Type 0} (l c p : ℕ) (d : Document) → accepted d ≡ refused l c p → A
 not-accepted l c p d e = let z : _≡_ {A = ℕ} 0 1 = cc in apart z
 
 pub faults-are-real : Faults-are-real
-faults-are-real text other l c p says small front mark d h = over (leb (length text) 60000) refl says
+faults-are-real text other l c p says small front mark d h = by (refusal text l c p says)
   where
-    turn : List ℕ → Bool → Got Document
-    turn t b = elim b [ true ↦ document t | false ↦ fault 2 4 60000 ]
+    short : length other ≤ 60000
+    short = elim (cases-lt 60000 (length other)) [ inl n ↦ not-accepted 2 4 60000 d (subst (λ g. Concludes g (accepted d)) (parsed-long other n) h) | inr n ↦ n ]
 
-    ends : (g : Got Document) → turn other true ≡ g → (i j k : ℕ) → g ≡ fault i j k → (b : Bool) → Concludes (turn other b) (accepted d) → ⊥
-    ends g e i j k f true h = let P : Got Document → Type 0 = λ g. Concludes g (accepted d) in not-accepted i j k d (subst P (e ∙ f) h)
-    ends g e i j k f false h = not-accepted 2 4 60000 d h
+    shorter : (n : ℕ) (xs : List ℕ) → length (take n xs) ≤ length xs
+    shorter zero xs = omega arith
+    shorter (suc n) [] = omega arith
+    shorter (suc n) (x ∷ xs) = omega (arith, shorter n xs)
 
-    inner : (g : Got Document) → document text ≡ g → Concludes g (refused l c p) → ⊥
-    inner (got x q bs) e s = omega (arith, s .0, small)
-    inner (fault i j k) e s =
-        let a : l ≡ i = cc in
-        let b : c ≡ j = cc in
-        let m : p ≡ k = cc in
-        let same : document text ≡ fault l c p = e ∙ ap (λ z. fault z j k) (sym a) ∙ ap (λ z. fault l z k) (sym b) ∙ ap (λ z. fault l c z) (sym m) in
-        ends (document other) refl l c p (document-fault text other l c p same small front mark) (leb (length other) 60000) h
-
-    empty : (z : List ℕ) → next z ≡ end → z ≡ []
-    empty z h =
-        let P : Mark → Type 0 = λ m. Stands m (width z) z in
-        subst P h (next-stands z)
-
-    long : (b : Bool) → leb (length other) 60000 ≡ b → 60000 < length text → p ≡ 60000 → Concludes (turn other b) (accepted d) → ⊥
-    long true t n e h =
-        let short : length other ≤ p = omega (arith, leb-true (length other) 60000 t, e) in
-        let none : drop p text ≡ [] = empty (drop p text) (sym mark ∙ ap next (drop-all p other short)) in
-        omega (arith, ap length (take-append-drop p text), length-append (take p text) (drop p text), ap length none, ap length front, n, e, shorter p other)
-      where
-        shorter : (n : ℕ) (xs : List ℕ) → length (take n xs) ≤ length xs
-        shorter zero xs = omega arith
-        shorter (suc n) [] = omega arith
-        shorter (suc n) (x ∷ xs) = omega (arith, shorter n xs)
-    long false t n e h = not-accepted 2 4 60000 d h
-
-    over : (b : Bool) → leb (length text) 60000 ≡ b → Concludes (turn text b) (refused l c p) → ⊥
-    over true t s = inner (document text) refl s
-    over false t s = let e : p ≡ 60000 = cc in long (leb (length other) 60000) refl (leb-false (length text) 60000 t) e h
+    by : Refusal text l c p → ⊥
+    by (checked x k a w) = omega arith
+    by (stopped k e) =
+        let again = document-fault text other l c p e small front mark in
+        not-accepted l c p d (subst (λ g. Concludes g (accepted d)) (parsed-short other short ∙ again) h)
+    by (long n a b m) =
+        let few : length other ≤ p = omega (arith, short, m) in
+        let none : drop p text ≡ [] = end-empty (drop p text) (sym mark ∙ ap next (drop-all p other few)) in
+        omega (arith, ap length (take-append-drop p text), length-append (take p text) (drop p text), ap length none, ap length front, n, m, shorter p other)
 
 pub written-once : Written-once
 written-once d e h k same =

@@ -1,27 +1,23 @@
 -- What a reading comes to hangs on nothing behind the mark that it stopped at.
 use mathlib.Core.Path.{_≡_, refl, sym, _∙_, ap, subst}
 use mathlib.Core.List.{List, [], _∷_, _++_}
-use mathlib.Core.Bool.{Bool, true, false, cond, _&&_}
-use Prim.Native.Nat.{ℕ, zero, suc, _+_, _-_, _≤_, _<_}
-use native.Mathlib.Nat.{add-zero, add-assoc}
+use mathlib.Core.Bool.{Bool, true, false, cond}
+use Prim.Native.Nat.{ℕ, _+_, _≤_, _<_}
+use native.Mathlib.Nat.{add-zero}
 use native.Mathlib.Omega.{arith}
 use native.Mathlib.Numerals.{one-add}
-use lib.ListN.{length, getD, take, drop}
+use lib.ListN.{length, take, drop}
 use lib.Dec.{eqb}
 use Rattle.std.specs.shelf.Lists.{leading}
-use Rattle.std.specs.declared.option.Option.{Option}
-use Rattle.std.specs.declared.option.Option.the-variants.{Some, None}
-use Rattle.std.proofs.shelf.Lists.{append-assoc, length-append, append-nil, take-append-drop, length-take-le, drop-at}
+use Rattle.std.proofs.shelf.Lists.{append-assoc, length-append, take-append-drop, length-take-le, drop-at}
 use Rattle.std.proofs.shelf.Sums.{leading-le-length}
-use Rattle.std.proofs.shelf.Ways.{tells}
-use Rattle.text.specs.Marks.{Mark, sign, word, number, end, bad, isLetter, isDigit, isSingle, kind, markOf, widthOf, next, width, figures, badlyWritten}
+use Rattle.text.specs.Marks.{Mark, sign, word, number, end, bad, isLetter, isDigit, kind, markOf, widthOf, next, width, figures, badlyWritten}
 use Rattle.text.specs.declared.Kind.{Kind}
 use Rattle.text.specs.declared.Kind.the-variants.{Single, Letter, Digit, Outside}
-use Rattle.text.specs.Forms.{Want, Form, meets, keeps, Got, got, fault, andThen, unwanted, follow}
-use Rattle.text.proofs.Runs.{Every, Stops, front-passes, leading-some, kind-letter, kind-digit, kind-single, letter-kind, digit-kind}
-use Rattle.text.proofs.Marks.{Stands, next-stands, Shows, shows-word, shows-figures}
-use Rattle.text.proofs.Forms.{Went, went, goes, never-got}
-use Rattle.text.proofs.Cuts.{never}
+use Rattle.text.specs.Forms.{Form, meets, keeps, Got, got, fault, andThen, unwanted, follow}
+use Rattle.text.proofs.Runs.{Stops, front-passes, leading-some, kind-letter, kind-digit, letter-kind, digit-kind}
+use Rattle.text.proofs.Marks.{end-empty, shows-word, shows-figures}
+use Rattle.text.proofs.Forms.{apart, went, goes, never-got, unwanted-place, before, behind, where-fault}
 
 -- The mark in hand tells whether a letter, or a digit, stands first.
 firstly : (ℕ → Bool) → List ℕ → Bool
@@ -64,9 +60,6 @@ not-digit b k e h = go (isDigit b) refl
     go true l = absurd (h (sym e ∙ kind-digit b l))
     go false l = refl
 
-apart : {A : Type 0} → _≡_ {A = ℕ} 0 1 → A
-apart z = absurd (omega arith)
-
 word-first : (bs : List ℕ) → is-word (next bs) ≡ firstly isLetter bs
 unfolding is-word firstly
 word-first [] = refl
@@ -100,7 +93,7 @@ from-stops p [] h = refl
 from-stops p (x ∷ xs) h = h
 
 -- Behind the longest run stands something else.
-leading-stops : (p : ℕ → Bool) (bs : List ℕ) → Stops p (drop (leading p bs) bs)
+pub leading-stops : (p : ℕ → Bool) (bs : List ℕ) → Stops p (drop (leading p bs) bs)
 leading-stops p [] = tt
 leading-stops p (x ∷ xs) = go (p x) refl (leading-stops p xs)
   where
@@ -113,11 +106,6 @@ record Stays (bs z : List ℕ) : Type 0 where
   is : next (take (width bs) bs ++ z) ≡ next bs
   wide : width (take (width bs) bs ++ z) ≡ width bs
 
-ends-empty : (z : List ℕ) (m : Mark) → next z ≡ m → m ≡ end → z ≡ []
-ends-empty z m e h =
-    let P : Mark → Type 0 = λ m. Stands m (width z) z in
-    subst P (e ∙ h) (next-stands z)
-
 width-fits : (bs : List ℕ) → width bs ≤ length bs
 width-fits [] = omega arith
 width-fits (b ∷ bs) = go (kind b)
@@ -129,7 +117,7 @@ width-fits (b ∷ bs) = go (kind b)
     go Outside = omega arith
 
 stays : (bs z : List ℕ) → next z ≡ next (drop (width bs) bs) → Stays bs z
-stays [] z h = let e = ends-empty z end h refl in record { is = h; wide = ap width e }
+stays [] z h = let e = end-empty z h in record { is = h; wide = ap width e }
 stays (b ∷ bs) z h = let t = go (kind b) refl h in record { is = t .is; wide = t .wide }
   where
     go : (k : Kind) → kind b ≡ k → next z ≡ next (drop (widthOf k (b ∷ bs)) (b ∷ bs)) → record { is : next (take (widthOf k (b ∷ bs)) (b ∷ bs) ++ z) ≡ markOf k b (b ∷ bs); wide : width (take (widthOf k (b ∷ bs)) (b ∷ bs) ++ z) ≡ widthOf k (b ∷ bs) }
@@ -154,6 +142,18 @@ stays (b ∷ bs) z h = let t = go (kind b) refl h in record { is = t .is; wide =
         record { is = t .is; wide = t .wide ∙ long }
     go Outside e h = record { is = rw e refl; wide = rw e refl }
 
+-- From place p with bs left, mark by mark, to place q with rest left.
+pub data Steps : ℕ → List ℕ → ℕ → List ℕ → Type 0 where
+  no-step : (p : ℕ) (bs : List ℕ) (q : ℕ) (rest : List ℕ) → p ≡ q → bs ≡ rest → Steps p bs q rest
+  a-step : (p : ℕ) (bs : List ℕ) (q : ℕ) (rest : List ℕ) → Steps (p + width bs) (drop (width bs) bs) q rest → Steps p bs q rest
+
+steps-both : (p : ℕ) (bs : List ℕ) (m : ℕ) (mid : List ℕ) (q : ℕ) (rest : List ℕ) → Steps p bs m mid → Steps m mid q rest → Steps p bs q rest
+steps-both p bs m mid q rest (no-step p1 b1 m1 d1 e h) t =
+    let P : ℕ → Type 0 = λ x. Steps x bs q rest in
+    let Q : List ℕ → Type 0 = λ x. Steps m x q rest in
+    subst P (sym e) (subst Q (sym h) t)
+steps-both p bs m mid q rest (a-step p1 b1 m1 d1 s) t = a-step p bs q rest (steps-both (p + width bs) (drop (width bs) bs) m mid q rest s t)
+
 -- From place p with bs left, the reading r went over the bytes x, up to place q with y left; and it does so again, to the same end, with
 -- anything in place of y that begins with the same mark.
 pub record Again {A : Type 0} (r : ℕ → List ℕ → Got A) (p : ℕ) (bs x y : List ℕ) (q : ℕ) (out : List ℕ → Got A) : Type 0 where
@@ -161,6 +161,7 @@ pub record Again {A : Type 0} (r : ℕ → List ℕ → Got A) (p : ℕ) (bs x y
   pub place : q ≡ p + length x
   pub again : (z : List ℕ) → next z ≡ next y → r p (x ++ z) ≡ out z
   pub same : (z : List ℕ) → next z ≡ next y → next (x ++ z) ≡ next bs
+  pub marks : Steps p bs q y
 
 pub record GotAgain {A : Type 0} (r : ℕ → List ℕ → Got A) (p : ℕ) (bs : List ℕ) (a : A) (q : ℕ) (rest : List ℕ) : Type 0 where
   pub over : List ℕ
@@ -192,6 +193,7 @@ local-got a =
                   place = omega arith;
                   again = λ z h. ap (λ x. got x p z) same ∙ ap (λ x. got b x z) here;
                   same = λ z h. h ∙ ap next (sym left);
+                  marks = no-step p bs q rest here left;
                 };
           };
       faults = λ p bs l c q e h. let w : _≡_ {A = ℕ} 0 1 = cc in apart w;
@@ -204,6 +206,12 @@ local-third =
       faults = λ p bs l c q e h. let w : 3 ≡ l = cc in absurd (omega arith);
     }
 
+-- Another reading goes over the same bytes.
+pub again-as :
+    {A B : Type 0} {r : ℕ → List ℕ → Got A} {out : List ℕ → Got A} (s : ℕ → List ℕ → Got B) (p : ℕ) (bs x y : List ℕ) (q : ℕ) (new : List ℕ → Got B)
+    → Again r p bs x y q out → ((z : List ℕ) → next z ≡ next y → s p (x ++ z) ≡ new z) → Again s p bs x y q new
+again-as s p bs x y q new h again = record { splits = h .splits; place = h .place; again = again; same = h .same; marks = h .marks }
+
 pub local-same : {A : Type 0} (r s : ℕ → List ℕ → Got A) → ((p : ℕ) (bs : List ℕ) → r p bs ≡ s p bs) → Local r → Local s
 local-same r s e h =
     record {
@@ -212,13 +220,7 @@ local-same r s e h =
           let g = h .gots p bs b q rest (e p bs ∙ f) in
           record {
             over = g .over;
-            is =
-                record {
-                  splits = g .is .splits;
-                  place = g .is .place;
-                  again = λ z k. sym (e p (g .over ++ z)) ∙ g .is .again z k;
-                  same = g .is .same;
-                };
+            is = again-as s p bs (g .over) rest q (λ z. got b q z) (g .is) (λ z k. sym (e p (g .over ++ z)) ∙ g .is .again z k);
           };
       faults =
           λ p bs l c q f small.
@@ -226,13 +228,7 @@ local-same r s e h =
           record {
             over = g .over;
             left = g .left;
-            is =
-                record {
-                  splits = g .is .splits;
-                  place = g .is .place;
-                  again = λ z k. sym (e p (g .over ++ z)) ∙ g .is .again z k;
-                  same = g .is .same;
-                };
+            is = again-as s p bs (g .over) (g .left) q (λ z. fault l c q) (g .is) (λ z k. sym (e p (g .over ++ z)) ∙ g .is .again z k);
           };
     }
 
@@ -249,6 +245,7 @@ join r k p bs x a m mid y left q out f g =
           λ z h.
           goes (r p ((x ++ y) ++ z)) k a m (y ++ z) (out z) (ap (r p) (append-assoc x y z) ∙ f .again (y ++ z) (g .same z h)) (g .again z h);
       same = λ z h. ap next (append-assoc x y z) ∙ f .same (y ++ z) (g .same z h);
+      marks = steps-both p bs m mid q left (f .marks) (g .marks);
     }
 
 pub local-then :
@@ -264,36 +261,28 @@ local-then {A} {B} r k f g =
             over = u .over ++ v .over;
             is = join r k p bs (u .over) (w .thing) (w .place) (w .left) (v .over) rest q (λ z. got b q z) (u .is) (v .is);
           };
-      faults = λ p bs l c q e small. go p bs l c q small (r p bs) refl e;
+      faults =
+          λ p bs l c q e small.
+          elim (where-fault (r p bs) k l c q e) [
+            | before h ↦
+                let u = f .faults p bs l c q h small in
+                record {
+                  over = u .over;
+                  left = u .left;
+                  is =
+                      again-as (λ p bs. andThen (r p bs) k) p bs (u .over) (u .left) q (λ z. fault l c q) (u .is)
+                      (λ z t. ap (λ x. andThen x k) (u .is .again z t));
+                }
+            | behind a m mid h t ↦
+                let u = f .gots p bs a m mid h in
+                let v = g a .faults m mid l c q t small in
+                record {
+                  over = u .over ++ v .over;
+                  left = v .left;
+                  is = join r k p bs (u .over) a m mid (v .over) (v .left) q (λ z. fault l c q) (u .is) (v .is);
+                }
+          ];
     }
-  where
-    go :
-        (p : ℕ) (bs : List ℕ) (l c q : ℕ) → l ≤ 2 → (x : Got A) → r p bs ≡ x → andThen x k ≡ fault l c q → FaultAgain (λ p bs. andThen (r p bs) k) p bs l c q
-    go p bs l c q small (got a m mid) e h =
-        let u = f .gots p bs a m mid e in
-        let v = g a .faults m mid l c q h small in
-        record {
-          over = u .over ++ v .over;
-          left = v .left;
-          is = join r k p bs (u .over) a m mid (v .over) (v .left) q (λ z. fault l c q) (u .is) (v .is);
-        }
-    go p bs l c q small (fault i j s) e h =
-        let same : _≡_ {A = Got A} (fault i j s) (fault l c q) =
-        let a : i ≡ l = cc in let b : j ≡ c = cc in let d : s ≡ q = cc in
-        ap (λ z. fault z j s) a ∙ ap (λ z. fault l z s) b ∙ ap (λ z. fault l c z) d
-        in
-        let u = f .faults p bs l c q (e ∙ same) small in
-        record {
-          over = u .over;
-          left = u .left;
-          is =
-              record {
-                splits = u .is .splits;
-                place = u .is .place;
-                again = λ z t. ap (λ x. andThen x k) (u .is .again z t);
-                same = u .is .same;
-              };
-        }
 
 -- One or the other, by the mark in hand.
 pub local-choice :
@@ -312,12 +301,7 @@ local-choice {A} t r s f g =
         (p : ℕ) (bs x y : List ℕ) (q : ℕ) (out : List ℕ → Got A) (b : Bool)
         → t (next bs) ≡ b → Again (pick b) p bs x y q out → Again (λ p bs. pick (t (next bs)) p bs) p bs x y q out
     carry p bs x y q out b e h =
-        record {
-          splits = h .splits;
-          place = h .place;
-          again = λ z k. ap (λ c. pick c p (x ++ z)) (ap t (h .same z k) ∙ e) ∙ h .again z k;
-          same = h .same;
-        }
+        again-as (λ p bs. pick (t (next bs)) p bs) p bs x y q out h (λ z k. ap (λ c. pick c p (x ++ z)) (ap t (h .same z k) ∙ e) ∙ h .again z k)
 
     go :
         (p : ℕ) (bs : List ℕ) (a : A) (q : ℕ) (rest : List ℕ) (b : Bool)
@@ -340,13 +324,6 @@ local-choice {A} t r s f g =
         record { over = u .over; left = u .left; is = carry p bs (u .over) (u .left) q (λ z. fault l c q) false e (u .is) }
 
 -- A mark that is not wanted.
-unwanted-place : {A : Type 0} (m : Mark) (p l c q : ℕ) → unwanted {A = A} m p ≡ fault l c q → q ≡ p
-unwanted-place (sign b) p l c q e = cc
-unwanted-place (word w) p l c q e = cc
-unwanted-place (number n) p l c q e = cc
-unwanted-place end p l c q e = cc
-unwanted-place (bad k) p l c q e = cc
-
 pub local-unwanted : {A : Type 0} → Local {A = A} (λ p bs. unwanted (next bs) p)
 local-unwanted {A} =
     record {
@@ -362,6 +339,7 @@ local-unwanted {A} =
                   place = unwanted-place (next bs) p l c q e ∙ sym (add-zero p);
                   again = λ z h. ap (λ m. unwanted m p) h ∙ e;
                   same = λ z h. h;
+                  marks = no-step p bs q bs (sym (unwanted-place (next bs) p l c q e)) refl;
                 };
           };
     }
@@ -395,6 +373,7 @@ local-here =
                       ∙ ap (λ k. got m k (drop (width bs) (x ++ z))) place
                       ∙ ap (λ k. got m q k) (drop-at x z (width bs) long);
                   same = λ z h. stays bs z (h ∙ ap next (sym left)) .is;
+                  marks = a-step p bs q rest (no-step (p + width bs) (drop (width bs) bs) q rest place left);
                 };
           };
       faults = λ p bs l c q e small. let w : _≡_ {A = ℕ} 0 1 = cc in apart w;

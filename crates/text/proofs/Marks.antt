@@ -2,17 +2,17 @@
 use mathlib.Core.Path.{_≡_, refl, sym, _∙_, ap, subst}
 use mathlib.Core.List.{List, [], _∷_, _++_}
 use mathlib.Core.Logic.{inl, inr}
-use mathlib.Core.Bool.{Bool, true, false, cond, _&&_, _||_}
-use Prim.Native.Nat.{ℕ, zero, suc, _+_, _≤_, _<_, _^_}
+use mathlib.Core.Bool.{Bool, true, false, cond, _&&_}
+use Prim.Native.Nat.{ℕ, _≤_, _<_}
 use native.Mathlib.Omega.{arith}
 use lib.ListN.{length, getD, take, drop}
 use lib.Dec.{ltb, eqb}
 use Rattle.std.specs.shelf.Lists.{leading}
 use Rattle.std.specs.Reads.{value}
 use Rattle.std.specs.Written.{decimal}
-use Rattle.std.proofs.shelf.Lists.{take-append-drop, length-take-le, take-at, drop-at}
+use Rattle.std.proofs.shelf.Lists.{take-append-drop, length-take-le, take-at}
 use Rattle.std.proofs.shelf.Sums.{leading-le-length}
-use Rattle.std.proofs.shelf.Tests.{or-parts, and-cases, ltb-false, ltb-true, eqb-false, or-from, and-left, and-right, le-ltb, ne-eqb, cases-lt, cond-false}
+use Rattle.std.proofs.shelf.Tests.{or-parts, ltb-false, or-from, and-right, le-ltb, ne-eqb, cases-lt, cond-false}
 use Rattle.std.proofs.shelf.Numerals.{value-short}
 use Rattle.std.proofs.shelf.Decimals.{decimal-value, digits-decimal, value-decimal, length-decimal-le, decimal-some, first-decimal, decimal-digit}
 use Rattle.std.proofs.shelf.Ways.{tells}
@@ -20,7 +20,7 @@ use Rattle.text.specs.Marks.{Mark, sign, word, number, end, bad, isLetter, isD
 use Rattle.text.specs.declared.Kind.{Kind}
 use Rattle.text.specs.declared.Kind.the-variants.{Single, Letter, Digit, Outside}
 use Rattle.text.specs.Document.{Short}
-use Rattle.text.proofs.Runs.{Every, Stops, front-passes, leading-some, leading-run, kind-letter, kind-digit, kind-single, letter-kind, digit-kind, own}
+use Rattle.text.proofs.Runs.{Every, Stops, front-passes, leading-some, leading-run, kind-letter, kind-digit, kind-single, digit-kind, own}
 
 -- The bytes bs begin with x, which takes n of them.
 pub record Begins (x : List ℕ) (n : ℕ) (bs : List ℕ) : Type 0 where
@@ -63,6 +63,17 @@ next-stands (b ∷ bs) = go (kind b) refl
         let some : 0 < n = leading-some isDigit b bs (digit-kind b e) in
         good-figures (take n (b ∷ bs)) n (b ∷ bs) (front-passes isDigit (b ∷ bs)) (omega (arith, t .long)) t
     go Outside e = tt
+
+-- What has the mark of a byte in hand begins with that byte, and what has the end in hand is empty.
+pub begins-with : (b : ℕ) (bs : List ℕ) → next bs ≡ sign b → bs ≡ b ∷ drop (width bs) bs
+begins-with b bs e =
+    let P : Mark → Type 0 = λ m. Stands m (width bs) bs in
+    subst P e (next-stands bs) .splits
+
+pub end-empty : (bs : List ℕ) → next bs ≡ end → bs ≡ []
+end-empty bs e =
+    let P : Mark → Type 0 = λ m. Stands m (width bs) bs in
+    subst P e (next-stands bs)
 
 -- In front of bs stand the bytes x, as the mark m.
 pub record Shows (m : Mark) (x rest : List ℕ) : Type 0 where

@@ -1,24 +1,22 @@
 -- The estimates and the orders, read and written.
 use mathlib.Core.Path.{_≡_, refl, sym, _∙_, ap, subst}
 use mathlib.Core.List.{List, [], _∷_, _++_}
-use mathlib.Core.Bool.{Bool, true, false}
-use Prim.Native.Nat.{ℕ, zero, suc, _+_, _-_, _≤_, _<_}
-use native.Mathlib.Nat.{add-zero}
+use Prim.Native.Nat.{ℕ, zero, suc, _+_, _≤_, _<_}
 use native.Mathlib.Omega.{arith}
-use lib.ListN.{length, getD}
+use lib.ListN.{length}
 use Rattle.std.specs.shelf.Lists.{All}
 use Rattle.std.specs.declared.option.Option.{Option}
 use Rattle.std.specs.declared.option.Option.the-variants.{Some, None}
-use Rattle.std.proofs.shelf.Lists.{append-assoc, length-append, append-nil}
-use Rattle.text.specs.Marks.{Mark, word, next, isDigit, isLetter}
-use Rattle.text.specs.Forms.{Form, filled, meets, Got, got, fault, andThen, unwanted, follow}
-use Rattle.text.specs.Document.{Verb, ratio-verb, work-verb, ceiling-verb, show-verb, route-verb, named, how-many, an-order, verb, numbers, spaced-numbers, estimates-line, line-end, orders-text, opening, Short}
+use Rattle.std.proofs.shelf.Lists.{append-assoc, length-append}
+use Rattle.text.specs.Marks.{word, next, isDigit, isLetter}
+use Rattle.text.specs.Forms.{filled, Got, got, andThen, unwanted, follow}
+use Rattle.text.specs.Document.{Verb, ratio-verb, work-verb, ceiling-verb, show-verb, route-verb, named, how-many, an-order, verb, numbers, spaced-numbers, orders-text, opening, Short}
 use Rattle.text.specs.declared.Order.{Order}
 use Rattle.text.specs.declared.Order.the-variants.{Ratio, Work, Ceiling, Show, Route}
 use Rattle.text.specs.Reading.{order-of, verb-of, order-from, orders-from}
 use Rattle.text.proofs.Runs.{Stops, Every}
-use Rattle.text.proofs.Marks.{Shows, shows-word}
-use Rattle.text.proofs.Forms.{Went, went, goes, never-got, Took, took-none, took-both, Fits, Followed, follow-sound, Spaced}
+use Rattle.text.proofs.Marks.{shows-word}
+use Rattle.text.proofs.Forms.{went, goes, never-got, Took, took-both, Fits, follow-sound, Spaced}
 use Rattle.text.proofs.Cuts.{follow-to}
 
 -- The numbers of such a line are as many as it wants, and short.
@@ -63,13 +61,14 @@ pub record OrderRead (p : ℕ) (bs : List ℕ) (o : Order) (q : ℕ) (rest : Lis
   pub short : All Short (numbers o)
   pub took : Took (filled (an-order (verb o)) (numbers o)) p bs q rest
 
+-- An order, by the verb in hand, if there is one.
+abbrev pub order-by : Option Verb → ℕ → List ℕ → Got Order
+order-by x p bs = elim x [ Some v ↦ andThen (follow (an-order v) p bs) (λ ns q rest. got (order-of v ns) q rest) | None ↦ unwanted (next bs) p ]
+
 pub order-sound : (p : ℕ) (bs : List ℕ) (o : Order) (q : ℕ) (rest : List ℕ) → order-from p bs ≡ got o q rest → OrderRead p bs o q rest
 order-sound p bs o q rest e = go (verb-of (next bs)) e
   where
-    go :
-        (x : Option Verb)
-        → elim x [ Some v ↦ andThen (follow (an-order v) p bs) (λ ns q rest. got (order-of v ns) q rest) | None ↦ unwanted (next bs) p ] ≡ got o q rest
-        → OrderRead p bs o q rest
+    go : (x : Option Verb) → order-by x p bs ≡ got o q rest → OrderRead p bs o q rest
     go (Some v) e =
         let w = went (follow (an-order v) p bs) (λ ns q rest. got (order-of v ns) q rest) o q rest e in
         let f = follow-sound (an-order v) p bs (w .thing) (w .place) (w .left) (w .first) in

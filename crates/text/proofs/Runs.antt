@@ -1,16 +1,15 @@
 -- Runs of letters and of digits, and what a run of digits says.
-use mathlib.Core.Path.{_≡_, refl, sym, _∙_, ap, subst}
+use mathlib.Core.Path.{_≡_, refl}
 use mathlib.Core.List.{List, [], _∷_, _++_}
-use mathlib.Core.Bool.{Bool, true, false, cond, _&&_}
-use Prim.Native.Nat.{ℕ, zero, suc, _+_, _≤_, _<_, _^_}
+use mathlib.Core.Bool.{Bool, true, false, cond}
+use Prim.Native.Nat.{ℕ, _+_, _<_}
 use native.Mathlib.Omega.{arith}
 use native.Mathlib.Numerals.{one-add}
-use lib.ListN.{length, getD, take, drop}
+use lib.ListN.{length, take}
 use lib.Dec.{leb}
 use Rattle.std.specs.shelf.Lists.{All, leading}
 use Rattle.std.specs.Reads.{value}
-use Rattle.std.specs.Text.{In}
-use Rattle.std.proofs.shelf.Tests.{cases-bool, and-parts, and-from, leb-true, le-leb}
+use Rattle.std.proofs.shelf.Tests.{and-parts, and-from, leb-true, le-leb}
 use Rattle.std.proofs.shelf.Ways.{tells}
 use Rattle.std.proofs.shelf.Numerals.{Numerals, TellsDigits, numerals-by-value}
 use Rattle.text.specs.Marks.{isLetter, isDigit, isSingle, kind}

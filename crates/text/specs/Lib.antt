@@ -5,4 +5,5 @@ pub mod Document
 pub mod Reading
 pub mod Rows
 pub mod Verdicts
+pub mod Causes
 pub mod Promises

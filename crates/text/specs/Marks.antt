@@ -1,4 +1,4 @@
--- The marks of a text: what the reader has in hand where some bytes are left.
+-- The marks of a text: what the reader has in hand where some bytes are left. Bytes are ASCII codes.
 use mathlib.Core.List.{List, [], _∷_}
 use mathlib.Core.Bool.{Bool, cond, _&&_, _||_}
 use Prim.Native.Nat.{ℕ}
@@ -21,6 +21,7 @@ isLetter b = leb 97 b && leb b 122
 abbrev pub isDigit : ℕ → Bool
 isDigit b = leb 48 b && leb b 57
 
+-- What a byte is: it stands for itself, or it is a letter, a digit, or outside the set of bytes that a text may have.
 abbrev pub kind : ℕ → Kind
 kind b = cond (isSingle b) Single (cond (isLetter b) Letter (cond (isDigit b) Digit Outside))
 
@@ -37,17 +38,19 @@ pub data Mark : Type 0 where
 abbrev pub badlyWritten : List ℕ → Bool
 badlyWritten ds = ltb 7 (length ds) || (ltb 1 (length ds) && eqb (getD ds 0 0) 48)
 
--- What a whole run of digits is.
+-- What a whole run of digits is: its value in base ten, or no mark.
 abbrev pub figures : List ℕ → Mark
 figures ds = cond (badlyWritten ds) (bad 2) (number (value 10 ds))
 
--- The mark that begins with b, where bs are all the bytes left, b the first of them. A word or a number is the longest run.
+-- The mark that begins with b, by the kind of b, where bs are all the bytes left, b the first of them. A word is the longest run of letters
+-- and a number the longest run of digits (`leading` counts the bytes of the longest front that passes).
 abbrev pub markOf : Kind → ℕ → List ℕ → Mark
 markOf Single b bs = sign b
 markOf Letter b bs = word (take (leading isLetter bs) bs)
 markOf Digit b bs = figures (take (leading isDigit bs) bs)
 markOf Outside b bs = bad 1
 
+-- How many bytes it takes.
 abbrev pub widthOf : Kind → List ℕ → ℕ
 widthOf Single bs = 1
 widthOf Letter bs = leading isLetter bs

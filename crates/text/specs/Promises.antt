@@ -8,8 +8,9 @@ use Rattle.text.specs.Document.{Document, WellFormed, Shaped, written}
 use Rattle.blank.specs.Table.{Passes}
 use Rattle.text.specs.Rows.{rows-of}
 use Rattle.text.specs.Verdicts.{Verdict, Says, accepted, refused}
+use Rattle.text.specs.Causes.{Told, Miscounted}
 
--- The text is the document's, the document is within the limits, and its table passes the checks.
+-- The text is the document's and is not too long, the document is within the limits, and its table passes the checks.
 pub record Writes (text : List ℕ) (d : Document) : Type 0 where
   pub is : text ≡ written d
   pub fits : length text ≤ 60000
@@ -52,3 +53,26 @@ abbrev pub Faults-are-first : Type 0
 Faults-are-first =
     (text : List ℕ) (layer cause place : ℕ)
     → length text ≤ 60000 → Says text (refused layer cause place) → layer ≤ 2 → (place ≤ length text) × Beginning (take place text)
+
+-- Where a text is refused by layer 1 or 2, the layer and the cause are those that belong to what stands at the place told.
+abbrev pub Causes-are-told : Type 0
+Causes-are-told =
+    (text : List ℕ) (layer cause place : ℕ) → Says text (refused layer cause place) → layer ≤ 2 → Told text place layer cause
+
+-- One layer and one cause belong to what stands at a place.
+abbrev pub One-cause : Type 0
+One-cause =
+    (text : List ℕ) (place l c k d : ℕ) → Told text place l c → Told text place k d → (l ≡ k) × (c ≡ d)
+
+-- A text is refused with layer 2 and cause 4 exactly at a place to which these belong: where it is too long, and where it has a cut too many.
+abbrev pub Too-much-is-told : Type 0
+Too-much-is-told =
+    (text : List ℕ) (place : ℕ) → (Says text (refused 2 4 place) → Told text place 2 4) × (Told text place 2 4 → Says text (refused 2 4 place))
+
+-- A text is refused for its number of states exactly where it is not too long and its first line is whole and says a number that is not
+-- allowed, whatever follows that line. The place told is then 0.
+abbrev pub Bad-count-is-told : Type 0
+Bad-count-is-told =
+    (text : List ℕ) (place : ℕ)
+    → (Says text (refused 3 5 place) → (place ≡ 0) × (length text ≤ 60000) × Miscounted text)
+    × ((place ≡ 0) × (length text ≤ 60000) × Miscounted text → Says text (refused 3 5 place))

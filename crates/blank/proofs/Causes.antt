@@ -1,12 +1,12 @@
 -- What a bad place is bad by, cause for cause, and how the checks join to the worst flaw.
 use mathlib.Core.Path.{_≡_, refl, sym, subst}
-use mathlib.Core.Logic.{_⊎_, inl, inr}
+use mathlib.Core.Logic.{inl, inr}
 use Prim.Native.Nat.{ℕ, _+_, _≤_, _<_}
 use native.Mathlib.Omega.{arith}
 use lib.ListN.{length, getD}
 use Rattle.std.proofs.shelf.Tests.{cases-lt, cases-eq}
 use Rattle.std.specs.declared.option.Option.the-variants.{Some, None}
-use Rattle.blank.specs.Table.{Rows, states, Shape, Ends, Holds, GoodTarget, GoodCost, GoodEstimate, GoodSlope, Bad, shape, ends, target, cost, estimate, slope, Passes, Worst}
+use Rattle.blank.specs.Table.{Rows, states, Shape, Ends, GoodTarget, GoodCost, GoodEstimate, GoodSlope, Bad, shape, ends, target, cost, estimate, slope, Passes, Worst}
 use Rattle.blank.specs.Checks.{First, Lapse}
 
 pub bad-five : (r : Rows) (c e : ℕ) → Bad r c e → c ≡ 5 → Shape r → ⊥

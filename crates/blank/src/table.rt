@@ -1,13 +1,14 @@
 ghost use mathlib.Core.Path.{_≡_};
-ghost use Prim.Native.Nat.{ℕ, _+_, _<_, _≤_};
-ghost use lib.ListN.{length, getD};
+ghost use Prim.Native.Nat.{_+_, _<_};
+ghost use lib.ListN.{length};
 ghost use Rattle.std.specs.Orderings.{Decides};
 ghost use Rattle.std.specs.declared.option.Option.the-variants.{None};
 ghost use Rattle.blank.specs.Table.{states, Shape, Ends, Holds, GoodTarget, GoodCost, GoodEstimate, GoodSlope, Bad};
-ghost use Rattle.blank.specs.Checks.{rowsIn, Checked, First, Lapse};
+ghost use Rattle.blank.specs.Checks.{rowsIn, Checked, WholeChecked, Rising, First, Lapse};
 use crate::flaw::Flaw;
 use course::Refusal;
 
+// How many states and how many cuts a table may have, and how large its costs and estimates may be.
 const LEAST_STATES: usize = 2;
 
 const MOST_STATES: usize = 1024;
@@ -37,6 +38,14 @@ impl TableRows<'_> {
     pub fn check(&self) -> Result<(), Flaw>
         ensures { λ r. ⌜ Checked (rowsIn (now (self .entry))) r ⌝ }
     {
+        self.check_whole()?;
+        self.check_parts()
+    }
+
+    // The causes that mean the whole: the shape of the rows, and the ends.
+    fn check_whole(&self) -> Result<(), Flaw>
+        ensures { λ r. ⌜ WholeChecked (rowsIn (now (self .entry))) r ⌝ }
+    {
         if !self.fits_together() {
             return Err(Flaw {
                 cause: Refusal::WrongShape,
@@ -49,6 +58,15 @@ impl TableRows<'_> {
                 place: 0,
             });
         }
+        Ok(())
+    }
+
+    // The causes that mean one entry or one state.
+    fn check_parts(&self) -> Result<(), Flaw>
+        requires shaped { ⌜ Shape (rowsIn (now self)) ⌝ }
+        requires apart { ⌜ Ends (rowsIn (now self)) ⌝ }
+        ensures { λ r. ⌜ Checked (rowsIn (now (self .entry))) r ⌝ }
+    {
         if let Some(place) = self.first_bad_target() {
             return Err(Flaw {
                 cause: Refusal::BadTarget,
@@ -93,8 +111,8 @@ impl TableRows<'_> {
 
     // Whether `firsts` never falls.
     fn rises(&self) -> bool
-        requires { ⌜ length (now (now self .firsts)) ≡ length (now (now self .estimates)) + 1 ⌝ }
-        ensures { λ r. ⌜ Decides r ((u : ℕ) → u < length (now (now (self .entry) .estimates)) → getD (now (now (self .entry) .firsts)) u 0 ≤ getD (now (now (self .entry) .firsts)) (u + 1) 0) ⌝ }
+        requires { ⌜ length (rowsIn (now self) .firsts) ≡ states (rowsIn (now self)) + 1 ⌝ }
+        ensures { λ r. ⌜ Decides r (Rising (rowsIn (now (self .entry)))) ⌝ }
     {
         for u in 0..self.estimates.len() {
             if self.firsts[u] > self.firsts[u + 1] {
@@ -186,7 +204,7 @@ impl TableRows<'_> {
         estimate <= MOST_ESTIMATE && (s != self.goal as usize || estimate == 0)
     }
 
-    // The first entry where the state's estimate is too steep.
+    // The first entry where the state's estimate is too steep. It is sought once every target is good, so that each cut leads to a state.
     fn first_steep_estimate(&self) -> Option<usize>
         requires shaped { ⌜ Shape (rowsIn (now self)) ⌝ }
         requires aimed { ⌜ First (Bad (rowsIn (now self)) 7) None ⌝ }
@@ -232,4 +250,118 @@ fn is_good_cost(cost: u32) -> bool
     ensures { λ r. ⌜ Decides r (GoodCost cost) ⌝ }
 {
     LEAST_COST <= cost && cost <= MOST_COST
+}
+
+#[cfg(test)]
+mod tests {
+    use super::TableRows;
+    use crate::flaw::Flaw;
+    use crate::flaw::FlawDebug;
+    use crate::flaw::FlawPartialEq;
+    use course::Refusal;
+    use std::test::*;
+
+    // Three states: 0 leads to 1 and to the goal 2, and 1 to 2.
+    fn good() -> TableRows<'static> {
+        TableRows {
+            firsts: &[0, 2, 3, 3],
+            targets: &[1, 2, 2],
+            costs: &[1, 3, 2],
+            estimates: &[3, 2, 0],
+            start: 0,
+            goal: 2,
+        }
+    }
+
+    fn told(rows: TableRows<'_>, cause: Refusal, place: usize) -> Result<(), Fail> {
+        check_eq(rows.check(), Err(Flaw { cause, place }))
+    }
+
+    #[test]
+    fn a_good_table_passes() -> Result<(), Fail> {
+        check_eq(good().check(), Ok(()))
+    }
+
+    #[test]
+    fn the_whole_is_told_at_nought() -> Result<(), Fail> {
+        told(
+            TableRows {
+                firsts: &[0, 2, 1, 3],
+                ..good()
+            },
+            Refusal::WrongShape,
+            0,
+        )?;
+        told(
+            TableRows {
+                costs: &[1, 3],
+                ..good()
+            },
+            Refusal::WrongShape,
+            0,
+        )?;
+        told(TableRows { start: 2, ..good() }, Refusal::BadEnds, 0)?;
+        told(
+            TableRows {
+                goal: 3,
+                costs: &[0, 0, 0],
+                ..good()
+            },
+            Refusal::BadEnds,
+            0,
+        )
+    }
+
+    #[test]
+    fn a_part_is_told_at_its_first_place() -> Result<(), Fail> {
+        told(
+            TableRows {
+                targets: &[1, 1, 1],
+                ..good()
+            },
+            Refusal::BadTarget,
+            1,
+        )?;
+        told(
+            TableRows {
+                targets: &[1, 2, 1],
+                costs: &[0, 0, 0],
+                ..good()
+            },
+            Refusal::BadTarget,
+            2,
+        )?;
+        told(
+            TableRows {
+                costs: &[1, 1001, 0],
+                ..good()
+            },
+            Refusal::BadCost,
+            1,
+        )?;
+        told(
+            TableRows {
+                estimates: &[3, 1_023_001, 1],
+                ..good()
+            },
+            Refusal::BadEstimate,
+            1,
+        )?;
+        told(
+            TableRows {
+                estimates: &[3, 2, 1],
+                ..good()
+            },
+            Refusal::BadEstimate,
+            2,
+        )?;
+        told(
+            TableRows {
+                estimates: &[2, 3, 0],
+                ..good()
+            },
+            Refusal::SteepEstimate,
+            2,
+        )
+    }
 }

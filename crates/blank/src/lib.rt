@@ -1,1 +1,9 @@
-// Blanks: what the search runs over. So far the checks of a table. It stands on course.
+// Blanks: what the search runs over. So far the rows of a table and their check. It stands on course.
+mod flaw;
+mod table;
+
+pub use flaw::Flaw;
+pub use flaw::FlawDebug;
+pub use flaw::FlawEq;
+pub use flaw::FlawPartialEq;
+pub use table::TableRows;

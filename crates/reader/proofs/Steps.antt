@@ -17,8 +17,11 @@ use Rattle.reader.specs.declared.marks.Token.{Token}
 use Rattle.reader.specs.declared.marks.Token.the-variants.{Sign, Word, Number, End}
 use Rattle.reader.specs.declared.marks.Mark.{Mark}
 use Rattle.reader.specs.declared.marks.Reader.{Reader}
+use Rattle.reader.specs.declared.errors.ReadError.{ReadError}
+use Rattle.reader.specs.declared.errors.ReadError.the-variants.{AtFault, NoMemory}
+use Rattle.reader.specs.Rows.{Outcome}
 use Rattle.reader.specs.Meaning.{meant, Marked}
-use Rattle.reader.specs.Readings.{Takes, Reads, Went, Stopped, told, none}
+use Rattle.reader.specs.Readings.{Takes, Reads, Went, Stopped, told, none, rest}
 use Rattle.reader.proofs.Wants.{met-one}
 
 stops : (w : Want) (f : Form) (p : ℕ) (bs : List ℕ) → meets w (next bs) ≡ false → follow (w ∷ f) p bs ≡ unwanted (next bs) p
@@ -61,36 +64,28 @@ wants-one w from to m false r h e k t =
           ∙ ap (fault 2 3) (sym (h .here));
     })
 
--- The rest of the text is read from the place behind the first form.
-onward : (g : Form) (from mid : Reader) → now (mid .text) ≡ now (from .text) → follow g (mid .at) (drop (mid .at) (now (from .text))) ≡ follow g (mid .at) (drop (mid .at) (now (mid .text)))
-onward g from mid e = ap (λ xs. follow g (mid .at) (drop (mid .at) xs)) (sym e)
-
 pub went-then : {f g : Form} {ns ms : List ℕ} {from mid to : Reader} → Went f ns from mid → Went g ms mid to → Went (f ++ g) (ns ++ ms) from to
 went-then {f} {g} {ns} {ms} {from} {mid} {to} h k =
-    let bs = drop (from .at) (now (from .text)) in
     record {
       same = k .same ∙ h .same;
       tells =
-          follow-append f g (from .at) bs
-          ∙ goes (follow f (from .at) bs) (after g) ns (mid .at) (drop (mid .at) (now (from .text))) (got (ns ++ ms) (to .at) (drop (to .at) (now (from .text)))) (h .tells)
-          (goes (follow g (mid .at) (drop (mid .at) (now (from .text)))) (λ ms q rest. got (ns ++ ms) q rest) ms (to .at) (drop (to .at) (now (from .text)))
-          (got (ns ++ ms) (to .at) (drop (to .at) (now (from .text))))
-          (onward g from mid (h .same) ∙ k .tells ∙ ap (λ xs. got ms (to .at) (drop (to .at) xs)) (h .same)) refl);
+          follow-append f g (from .at) (rest from)
+          ∙ goes (follow f (from .at) (rest from)) (after g) ns (mid .at) (rest mid) (got (ns ++ ms) (to .at) (rest to)) (h .tells)
+          (goes (follow g (mid .at) (rest mid)) (λ ms q bs. got (ns ++ ms) q bs) ms (to .at) (rest to) (got (ns ++ ms) (to .at) (rest to)) (k .tells) refl);
     }
 
 pub stopped-first : {f : Form} {from to : Reader} {e : Fault} (g : Form) → Stopped f from to e → Stopped (f ++ g) from to e
 stopped-first {f} {from} {to} {e} g h =
-    record { same = h .same; tells = follow-append f g (from .at) (drop (from .at) (now (from .text))) ∙ ap (λ r. andThen r (after g)) (h .tells) }
+    record { same = h .same; tells = follow-append f g (from .at) (rest from) ∙ ap (λ r. andThen r (after g)) (h .tells) }
 
 pub stopped-then : {f g : Form} {ns : List ℕ} {from mid to : Reader} {e : Fault} → Went f ns from mid → Stopped g mid to e → Stopped (f ++ g) from to e
 stopped-then {f} {g} {ns} {from} {mid} {to} {e} h k =
-    let bs = drop (from .at) (now (from .text)) in
     record {
       same = k .same ∙ h .same;
       tells =
-          follow-append f g (from .at) bs
-          ∙ goes (follow f (from .at) bs) (after g) ns (mid .at) (drop (mid .at) (now (from .text))) (told e) (h .tells)
-          (ap (λ r. andThen r (λ ms q rest. got (ns ++ ms) q rest)) (onward g from mid (h .same) ∙ k .tells));
+          follow-append f g (from .at) (rest from)
+          ∙ goes (follow f (from .at) (rest from)) (after g) ns (mid .at) (rest mid) (told e) (h .tells)
+          (ap (λ r. andThen r (λ ms q bs. got (ns ++ ms) q bs)) (k .tells));
     }
 
 pub reads-then :
@@ -105,3 +100,16 @@ pub passes-up :
     → ErrBy r (λ y. y ≡ e) → Stopped f from to e → Reads f mean from to r
 passes-up f mean from to e (Ok a) h k = absurd h
 passes-up f mean from to e (Err d) h k = rw h k
+
+pub passes-out :
+    {A : Type 0} (P : A → Type 0) (Q : Fault → Type 0) (e : Fault) (r : Result A ReadError) → ErrBy r (λ y. y ≡ AtFault e) → Q e → Outcome P Q r
+passes-out P Q e (Ok a) h k = absurd h
+passes-out P Q e (Err d) h k = rw h k
+
+-- What failed is handed upward as it is, want of memory or a fault, which is then a fault of the whole.
+pub hands-up :
+    {A B : Type 0} (P : A → Type 0) (Q : Fault → Type 0) (R : B → Type 0) (S : Fault → Type 0) (e : ReadError) (r : Result A ReadError)
+    → ErrBy r (λ y. y ≡ e) → Outcome R S (Err e) → ((f : Fault) → S f → Q f) → Outcome P Q r
+hands-up P Q R S e (Ok a) h k up = absurd h
+hands-up P Q R S (AtFault f) (Err d) h k up = rw h (up f k)
+hands-up P Q R S NoMemory (Err d) h k up = rw h tt

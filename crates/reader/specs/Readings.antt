@@ -43,15 +43,19 @@ headed h = h .states ∷ h .start ∷ h .goal ∷ []
 abbrev pub cutting : Cut → List ℕ
 cutting c = c .target ∷ c .cost ∷ []
 
+-- What a reader has before it.
+abbrev pub rest : Reader → List ℕ
+rest r = drop (r .at) (now (r .text))
+
 -- A reader went along a form, in the same text, and took the numbers ns.
 pub record Went (f : Form) (ns : List ℕ) (from to : Reader) : Type 0 where
   pub same : now (to .text) ≡ now (from .text)
-  pub tells : follow f (from .at) (drop (from .at) (now (from .text))) ≡ got ns (to .at) (drop (to .at) (now (from .text)))
+  pub tells : follow f (from .at) (rest from) ≡ got ns (to .at) (rest to)
 
 -- A reader stopped on its way along a form.
 pub record Stopped (f : Form) (from to : Reader) (e : Fault) : Type 0 where
   pub same : now (to .text) ≡ now (from .text)
-  pub tells : follow f (from .at) (drop (from .at) (now (from .text))) ≡ told e
+  pub tells : follow f (from .at) (rest from) ≡ told e
 
 -- A reader follows a form: what it answers means the form's numbers, or is the fault of the first mark that is not wanted.
 abbrev pub Reads : {A : Type 0} → Form → (A → List ℕ) → Reader → Reader → Result A Fault → Type 0

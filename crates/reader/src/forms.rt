@@ -32,7 +32,7 @@ pub(crate) struct Cut {
     pub(crate) cost: u32,
 }
 
-fn is_sign(token: Token<'_>, sign: Sign) -> bool
+pub(crate) fn is_sign(token: Token<'_>, sign: Sign) -> bool
     ensures { λ r. ⌜ r ≡ meets (the-sign (byteOf sign)) (meant (token .entry)) ⌝ }
 {
     match token {

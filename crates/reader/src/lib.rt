@@ -1,8 +1,14 @@
 // The reader of a text: its marks, its forms, and what it holds. It meets the rules of text. It stands on text, blank and course.
+mod errors;
 mod forms;
 mod kinds;
+mod lines;
 mod marks;
 
+pub use errors::AllocToError;
+pub use errors::FaultToError;
+pub use errors::ReadError;
+pub use errors::RefusedToError;
 pub use marks::Mark;
 pub use marks::Reader;
 pub use marks::Sign;

@@ -6,3 +6,4 @@ pub mod Steps
 pub mod CutLines
 pub mod StateLines
 pub mod Estimates
+pub mod OrderLines

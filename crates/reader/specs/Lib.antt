@@ -1,3 +1,4 @@
 pub mod Meaning
 pub mod Readings
 pub mod Rows
+pub mod Orders

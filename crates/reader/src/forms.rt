@@ -41,7 +41,7 @@ pub(crate) fn is_sign(token: Token<'_>, sign: Sign) -> bool
     }
 }
 
-fn is_word(token: Token<'_>, word: &[u8]) -> bool
+pub(crate) fn is_word(token: Token<'_>, word: &[u8]) -> bool
     ensures { λ r. ⌜ r ≡ meets (the-word (now (word .entry))) (meant (token .entry)) ⌝ }
 {
     match token {
@@ -60,7 +60,7 @@ fn is_number(token: Token<'_>, n: u32) -> bool
     }
 }
 
-fn unwanted(mark: Mark<'_>) -> Fault
+pub(crate) fn unwanted(mark: Mark<'_>) -> Fault
     ensures { λ r. ⌜ r ≡ record { layer = Forms; cause = MarkUnwanted; place = mark .entry .place } ⌝ }
 {
     Fault {

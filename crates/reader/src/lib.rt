@@ -4,6 +4,7 @@ mod forms;
 mod kinds;
 mod lines;
 mod marks;
+mod orders;
 
 pub use errors::AllocToError;
 pub use errors::FaultToError;

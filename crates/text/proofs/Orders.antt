@@ -117,7 +117,7 @@ fits-order (Ceiling c) s = (s .0, refl)
 fits-order Show s = refl
 fits-order Route s = refl
 
-order-again : (o : Order) → order-of (verb o) (numbers o) ≡ o
+pub order-again : (o : Order) → order-of (verb o) (numbers o) ≡ o
 order-again (Ratio p q) = refl
 order-again (Work b) = refl
 order-again (Ceiling c) = refl

@@ -7,3 +7,5 @@ pub mod CutLines
 pub mod StateLines
 pub mod Estimates
 pub mod OrderLines
+pub mod Whole
+pub mod Judged

@@ -1,4 +1,5 @@
 // The reader of a text: its marks, its forms, and what it holds. It meets the rules of text. It stands on text, blank and course.
+mod document;
 mod errors;
 mod forms;
 mod kinds;
@@ -6,6 +7,8 @@ mod lines;
 mod marks;
 mod orders;
 
+pub use document::Document;
+pub use document::read;
 pub use errors::AllocToError;
 pub use errors::FaultToError;
 pub use errors::ReadError;

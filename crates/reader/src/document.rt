@@ -2,6 +2,7 @@
 ghost use mathlib.Core.Path.{_≡_};
 ghost use Rattle.std.specs.Of.Vec.{vec-items};
 ghost use Rattle.blank.specs.Checks.{rowsIn, Checked};
+ghost use Rattle.text.specs.Promises.{Verdict-laws};
 ghost use Rattle.reader.specs.Documents.{rowsOf, BodyTold, DocumentTold, CheckTold};
 ghost use Rattle.reader.specs.Verdict.{Answers};
 use crate::errors::FaultToError;
@@ -102,9 +103,11 @@ fn whole(heap: Global, text: &[u8]) -> Result<Document, ReadError>
     reader.body(heap, head)
 }
 
-// What a text holds, or why it is refused. Every text whatever has an answer, unless memory fails.
+// What a text holds, or why it is refused. Every text whatever has an answer, unless memory fails; and the laws hold of the verdicts on
+// all texts.
 pub fn read(heap: Global, text: &[u8]) -> Result<Document, ReadError>
-    ensures { λ r. ⌜ Answers (now (text .entry)) r ⌝ }
+    ensures verdict { λ r. ⌜ Answers (now (text .entry)) r ⌝ }
+    ensures laws { λ _. ⌜ Verdict-laws ⌝ }
 {
     if text.len() > MOST_BYTES {
         return Err(ReadError::AtFault(Fault {

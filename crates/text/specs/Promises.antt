@@ -76,3 +76,16 @@ Bad-count-is-told =
     (text : List ℕ) (place : ℕ)
     → (Says text (refused 3 5 place) → (place ≡ 0) × (length text ≤ 60000) × Miscounted text)
     × ((place ≡ 0) × (length text ≤ 60000) × Miscounted text → Says text (refused 3 5 place))
+
+-- All of it: the laws of the verdicts on every text.
+pub record Verdict-laws : Type 0 where
+  pub accepted-is-written : Accepted-is-written
+  pub written-once : Written-once
+  pub stands : Verdict-stands
+  pub once : Verdict-once
+  pub faults-are-real : Faults-are-real
+  pub faults-are-first : Faults-are-first
+  pub causes-are-told : Causes-are-told
+  pub one-cause : One-cause
+  pub too-much-is-told : Too-much-is-told
+  pub bad-count-is-told : Bad-count-is-told

@@ -143,3 +143,41 @@ pub fn answer(heap: Global, text: &[u8]) -> Result<String, AllocError>
         Err(error) => complaint(heap, error),
     }
 }
+
+#[cfg(test)]
+mod tests {
+    use super::*;
+    use std::test::*;
+
+    fn prints(rt: &LibcRuntime, text: &[u8], wanted: &str) -> Result<(), Fail> {
+        let out = answer(rt.alloc(), text)?;
+        check_eq(out.as_str(), wanted)
+    }
+
+    #[test]
+    fn a_text_is_listed(rt: LibcRuntime) -> Result<(), Fail> {
+        prints(
+            &rt,
+            b"(last 2 (start 0) (goal 1))\n(from 0 (1 30))\n(from 1)\n(estimates 30 0)\n(show)\n(ratio 3 2)\n",
+            "states 2\nstart 0\ngoal 1\ncut 0 1 30\nestimates 30 0\norders 2\n",
+        )
+    }
+
+    #[test]
+    fn marks_and_forms_are_faulted(rt: LibcRuntime) -> Result<(), Fail> {
+        prints(&rt, b"", "fault 2 3 0\n")?;
+        prints(&rt, b"(Last", "fault 1 1 1\n")?;
+        prints(&rt, b"(last 07", "fault 1 2 6\n")?;
+        prints(&rt, b"(last2", "fault 2 3 5\n")?;
+        prints(&rt, b"(last 1 (start 0) (goal 0))\n", "fault 3 5 0\n")
+    }
+
+    #[test]
+    fn tables_are_faulted(rt: LibcRuntime) -> Result<(), Fail> {
+        prints(&rt, b"(last 2 (start 0) (goal 2))\n(from 0 (1 9))\n(from 1)\n(estimates 9 0)\n", "fault 3 6 0\n")?;
+        prints(&rt, b"(last 2 (start 0) (goal 1))\n(from 0 (0 9))\n(from 1)\n(estimates 9 0)\n", "fault 3 7 0\n")?;
+        prints(&rt, b"(last 2 (start 0) (goal 1))\n(from 0 (1 0))\n(from 1)\n(estimates 9 0)\n", "fault 3 8 0\n")?;
+        prints(&rt, b"(last 2 (start 0) (goal 1))\n(from 0 (1 9))\n(from 1)\n(estimates 9 1)\n", "fault 3 9 1\n")?;
+        prints(&rt, b"(last 2 (start 0) (goal 1))\n(from 0 (1 9))\n(from 1)\n(estimates 10 0)\n", "fault 3 10 0\n")
+    }
+}

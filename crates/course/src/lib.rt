@@ -2,7 +2,7 @@
 // what the machine does in one move, what each call answers, and what lists of calls make; the planner's code meets them in crates of its
 // own. A function below that takes nothing stands for a theorem: its contract is the statement, and nothing is computed. It stands on std
 // alone.
-ghost use Rattle.course.specs.Promises.{Lives-agree, Lives-sound, Words-meant};
+ghost use Rattle.course.specs.Promises.{Lives-sound, Words-meant, Lives-agree, Calls-answered, Clamping-begins};
 mod machine;
 mod refusal;
 
@@ -32,6 +32,20 @@ pub fn words_are_meant() -> u8
 // Two lives with the same settings at the same moves, and as many moves, answer show and route alike.
 pub fn lives_agree() -> u8
     ensures { λ _. ⌜ Lives-agree ⌝ }
+{
+    0
+}
+
+// After every list of calls, every call whatever has an answer and a state that it leaves, and only one.
+pub fn calls_are_answered() -> u8
+    ensures { λ _. ⌜ Calls-answered ⌝ }
+{
+    0
+}
+
+// Every lawful blank can be clamped with every wish, and clamping leaves one state.
+pub fn clamping_begins() -> u8
+    ensures { λ _. ⌜ Clamping-begins ⌝ }
 {
     0
 }

@@ -10,7 +10,7 @@ use Rattle.std.specs.declared.option.Option.{Option}
 use Rattle.std.specs.declared.option.Option.the-variants.{Some, None}
 use Rattle.std.proofs.shelf.Tests.{cases-lt}
 use Rattle.course.specs.Blanks.{Meaning, Lawful}
-use Rattle.course.specs.Machine.{State, Standing, with-ceiling, Order, Ranks}
+use Rattle.course.specs.Machine.{State, Standing, with-ceiling, Order, Lawful-ranks}
 use Rattle.course.specs.Calls.{Word, Works, is-done, is-met, is-spent, goes-on, Allowed, Call, work, ratio, ceiling, show, route, Answer, Does, works, short-row, over-budget, agrees, no-ratio, lowers, too-high, shows, tells, no-room, no-route, Life, clamped}
 use Rattle.course.specs.Promises.{Answered, Calls-answered, Begun, Clamping-begins}
 use Rattle.course.proofs.Outcomes.{one-raised, one-move}
@@ -23,7 +23,7 @@ use Rattle.course.proofs.Lives.{life-course, life-held}
 -- ONLY ONE
 
 -- A work comes to one end.
-pub one-works : {m : Meaning} {ord : Order} {b k l : ℕ} {w x : Word} {s y z : State} → Lawful m → Ranks ord → Works m ord b s w k y → Works m ord b s x l z → (w ≡ x) × (k ≡ l) × (y ≡ z)
+pub one-works : {m : Meaning} {ord : Order} {b k l : ℕ} {w x : Word} {s y z : State} → Lawful m → Lawful-ranks ord → Works m ord b s w k y → Works m ord b s x l z → (w ≡ x) × (k ≡ l) × (y ≡ z)
 one-works law ranks (is-done f) (is-done h) = (refl, refl, refl)
 one-works law ranks (is-done f) (is-met h n) = absurd (h f)
 one-works law ranks (is-done f) (is-spent h n) = absurd (h f)
@@ -42,7 +42,7 @@ one-works {m} {ord} law ranks (goes-on {b = b} f n move rest) (goes-on {k = l} {
     (same .0, ap suc (same .1), same .2)
 
 -- A call has one answer, and leaves one state.
-pub one-does : {m : Meaning} {ord : Order} {s y z : State} {c : Call} {a b : Answer} → Lawful m → Ranks ord → Does m ord s c a y → Does m ord s c b z → (a ≡ b) × (y ≡ z)
+pub one-does : {m : Meaning} {ord : Order} {s y z : State} {c : Call} {a b : Answer} → Lawful m → Lawful-ranks ord → Does m ord s c a y → Does m ord s c b z → (a ≡ b) × (y ≡ z)
 one-does law ranks (works costs wishes few ws) (works costs′ wishes′ few′ ws′) =
     let same = one-works law ranks ws ws′ in
     let word = same .0 in
@@ -101,7 +101,7 @@ allowed-decided p q = at (decLe 1 q) (decLe q p) (decLe p 1000)
     at (yes l) (yes o) (no h) = inr (λ x. h (x .high))
     at (yes l) (yes o) (yes h) = inl (record { low = l; order = o; high = h })
 
-module _ {m : Meaning} {ord : Order} (law : Lawful m) (ranks : Ranks ord) {s : State} (held : Held m s) where
+module _ {m : Meaning} {ord : Order} (law : Lawful m) (ranks : Lawful-ranks ord) {s : State} (held : Held m s) where
   -- A work is accepted, or its rows are too short, or its budget is too large.
   work-some : Allowed (s .p) (s .q) → (b c w : ℕ) → Deed m ord s (work b c w)
   work-some allowed b c w = at (decLe (m .states) c) (decLe (m .states) w) (decLe b 65535)

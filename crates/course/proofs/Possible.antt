@@ -151,23 +151,28 @@ move-some {m} {ord} {s} law ranks held allowed low = at (least-or-none law (held
         let raised = raised-some law (cuts-keep law shut (cuts .1) .kept) in
         (raised .0, move-from r (x .1) (c .2) (live .is-open) (cuts .1) (raised .1))
 
--- The standing route is near enough or not.
+-- The ratio is not met where no route stands.
+pub none-met : {s : State} → s .standing ≡ None → Met s → ⊥
+none-met e x = let stands = x .stands in let no-way : _≡_ {A = ℕ} 0 1 = cc in omega arith
+
+-- Nor where the standing route is not within the ceiling, or costs too much.
+pub far-met : {s : State} {r : Standing} → s .standing ≡ Some r → ((r .cost ≤ s .ceiling) × (r .cost * s .q ≤ s .p * s .floor) → ⊥) → Met s → ⊥
+far-met {s} {r} e far x =
+    let stands = x .stands in
+    let same : x .route ≡ r = cc in
+    far (subst (λ (k : Standing). (k .cost ≤ s .ceiling) × (k .cost * s .q ≤ s .p * s .floor)) same (x .within, x .near))
+
+-- The ratio is met or not.
 pub met-decided : (s : State) → Met s ⊎ (Met s → ⊥)
 met-decided s = go (s .standing) refl
   where
-    far : {r : Standing} → s .standing ≡ Some r → ((r .cost ≤ s .ceiling) × (r .cost * s .q ≤ s .p * s .floor) → ⊥) → Met s → ⊥
-    far {r} e no-case x =
-        let stands = x .stands in
-        let same : x .route ≡ r = cc in
-        no-case (subst (λ (k : Standing). (k .cost ≤ s .ceiling) × (k .cost * s .q ≤ s .p * s .floor)) same (x .within, x .near))
-
     go : (o : Option Standing) → s .standing ≡ o → Met s ⊎ (Met s → ⊥)
-    go None e = inr (λ x. let stands = x .stands in let no-way : _≡_ {A = ℕ} 0 1 = cc in omega arith)
+    go None e = inr (none-met e)
     go (Some r) e = elim (decLe (r .cost) (s .ceiling)) [
-      | no above ↦ inr (far e (λ x. above (x .0)))
+      | no above ↦ inr (far-met e (λ x. above (x .0)))
       | yes within ↦ elim (decLe (r .cost * s .q) (s .p * s .floor)) [
         | yes near ↦ inl (record { route = r; stands = e; within = within; near = near })
-        | no beyond ↦ inr (far e (λ x. beyond (x .1)))
+        | no beyond ↦ inr (far-met e (λ x. beyond (x .1)))
       ]
     ]
 

@@ -3,3 +3,4 @@ pub mod Blanks
 pub mod Machine
 pub mod Calls
 pub mod Promises
+pub mod Worked

@@ -3,6 +3,7 @@
 // own. A function below that takes nothing stands for a theorem: its contract is the statement, and nothing is computed. It stands on std
 // alone.
 ghost use Rattle.course.specs.Promises.{Lives-sound, Words-meant, Lives-agree, Calls-answered, Clamping-begins};
+ghost use Rattle.course.specs.Worked.{Worked-out};
 mod machine;
 mod refusal;
 
@@ -46,6 +47,13 @@ pub fn calls_are_answered() -> u8
 // Every lawful blank can be clamped with every wish, and clamping leaves one state.
 pub fn clamping_begins() -> u8
     ensures { λ _. ⌜ Clamping-begins ⌝ }
+{
+    0
+}
+
+// The worked blank P of docs/SEARCH.md is lawful, and a last over it answers the eight calls as that page says.
+pub fn p_answers_as_worked() -> u8
+    ensures { λ _. ⌜ Worked-out ⌝ }
 {
     0
 }

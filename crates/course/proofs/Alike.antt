@@ -1,31 +1,15 @@
--- A life meets only numbers that fit 32 bits, so equal wishes make the same courses.
+-- Equal wishes make the same courses, since a course ranks only numbers that fit 32 bits.
 use mathlib.Core.Path.{_∙_}
 use mathlib.Core.List.{List}
 use Prim.Native.Nat.{ℕ}
-use native.Mathlib.Omega.{arith}
 use Rattle.course.specs.Blanks.{Meaning, Lawful}
-use Rattle.course.specs.Machine.{State, Least, Focal, numbers, Order, Fits-32, Equal-wishes, Move}
+use Rattle.course.specs.Machine.{State, Focal, numbers, Order, Fits-32, Equal-wishes, Move}
 use Rattle.course.specs.Calls.{Allowed}
-use Rattle.course.proofs.Limit.{limit-ceiling}
 use Rattle.course.proofs.Moves.{Kept}
 use Rattle.course.proofs.Courses.{Event, Course, from-fresh, on, agreed, lowered, course-allowed}
-use Rattle.course.proofs.Floor.{live-in, course-held}
-use Rattle.course.proofs.Bounded.{Paid-by, paid-course, ceiling-low}
-
--- The numbers of a state of the focal set fit.
-pub numbers-fit : {m : Meaning} {s : State} {f u g : ℕ} → Lawful m → Kept m s → Paid-by m s → Allowed (s .p) (s .q) → Least m s f → Focal m s f u g → Fits-32 (numbers m s f u g)
-numbers-fit {m} {s} {f} {u} {g} law kept paid allowed least focal =
-    let ceiling = ceiling-low m s paid in
-    let limit = limit-ceiling (s .ceiling) (s .standing) in
-    record {
-      state = omega (arith, live-in law kept (focal .live), law .states-most);
-      g = omega (arith, focal .live .below);
-      h = omega (arith, law .estimate-most u);
-      limit = omega arith;
-      p = omega (arith, allowed .high);
-      q = omega (arith, allowed .high, allowed .order);
-      least = omega (arith, least .live .below, least .is);
-    }
+use Rattle.course.proofs.Floor.{course-held}
+use Rattle.course.proofs.Bounded.{Paid-by, paid-course}
+use Rattle.course.proofs.Fits.{numbers-fit}
 
 -- A move by one wish is a move by an equal one.
 pub move-alike : {m : Meaning} {a b : Order} {s z : State} → Lawful m → Equal-wishes a b → Kept m s → Paid-by m s → Allowed (s .p) (s .q) → Move m b s z → Move m a s z

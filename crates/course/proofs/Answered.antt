@@ -16,9 +16,8 @@ use Rattle.course.specs.Promises.{Answered, Calls-answered, Begun, Clamping-be
 use Rattle.course.proofs.Outcomes.{one-raised, one-move}
 use Rattle.course.proofs.Moves.{Kept}
 use Rattle.course.proofs.Floor.{Held, fresh-kept}
-use Rattle.course.proofs.Courses.{course-allowed}
 use Rattle.course.proofs.Possible.{raised-some, works-some}
-use Rattle.course.proofs.Lives.{life-course, life-held}
+use Rattle.course.proofs.Lives.{life-held, life-allowed}
 
 -- ONLY ONE
 
@@ -126,10 +125,10 @@ module _ {m : Meaning} {ord : Order} (law : Lawful m) (ranks : Lawful-ranks ord)
   ceiling-some c = elim (cases-lt (s .ceiling) c) [
     | inl high ↦ record { answer = _; left = s; does = too-high high }
     | inr low ↦
-      let k = held .kept in
-      let kept : Kept m (with-ceiling s c) = record { marks = k .marks; stands-route = k .stands-route; stands-short = k .stands-short; floor-under = k .floor-under } in
-      let r = raised-some law kept in
-      record { answer = _; left = r .0; does = lowers low (r .1) }
+        let k = held .kept in
+        let kept : Kept m (with-ceiling s c) = record { marks = k .marks; stands-route = k .stands-route; stands-short = k .stands-short; floor-under = k .floor-under } in
+        let r = raised-some law kept in
+        record { answer = _; left = r .0; does = lowers low (r .1) }
   ]
 
   -- A standing route is told, or the row is too short for it, or none stands.
@@ -156,7 +155,7 @@ module _ {m : Meaning} {ord : Order} (law : Lawful m) (ranks : Lawful-ranks ord)
 -- After every life every call is answered, and in one way.
 pub calls-answered : Calls-answered
 calls-answered m ord law ranks cs s life c =
-    let d = does-some law ranks (life-held law life) (course-allowed (life-course life .course)) c in
+    let d = does-some law ranks (life-held law life) (life-allowed life) c in
     record { answer = d .answer; left = d .left; does = d .does; only = λ a z does. one-does law ranks does (d .does) }
 
 -- Every clamping begins a life, and in one state.

@@ -4,6 +4,7 @@
 // alone.
 ghost use Rattle.course.specs.Promises.{Lives-sound, Words-meant, Lives-agree, Calls-answered, Clamping-begins};
 ghost use Rattle.course.specs.Worked.{Worked-out};
+
 mod machine;
 mod refusal;
 

@@ -12,7 +12,9 @@ use Rattle.course.proofs.Bounded.{Paid-by, paid-course}
 use Rattle.course.proofs.Fits.{numbers-fit}
 
 -- A move by one wish is a move by an equal one.
-pub move-alike : {m : Meaning} {a b : Order} {s z : State} → Lawful m → Equal-wishes a b → Kept m s → Paid-by m s → Allowed (s .p) (s .q) → Move m b s z → Move m a s z
+pub move-alike :
+    {m : Meaning} {a b : Order} {s z : State} → Lawful m → Equal-wishes a b → Kept m s → Paid-by m s → Allowed (s .p) (s .q) → Move m b s z
+    → Move m a s z
 move-alike {m} {a} {b} {s} law alike kept paid allowed move =
     let fit : (u g : ℕ) → Focal m s (move .f) u g → Fits-32 (numbers m s (move .f) u g) = λ u g focal. numbers-fit law kept paid allowed (move .least) focal in
     record {

@@ -22,7 +22,9 @@ use Rattle.course.proofs.Lives.{life-held, life-allowed}
 -- ONLY ONE
 
 -- A work comes to one end.
-pub one-works : {m : Meaning} {ord : Order} {b k l : ℕ} {w x : Word} {s y z : State} → Lawful m → Lawful-ranks ord → Works m ord b s w k y → Works m ord b s x l z → (w ≡ x) × (k ≡ l) × (y ≡ z)
+pub one-works :
+    {m : Meaning} {ord : Order} {b k l : ℕ} {w x : Word} {s y z : State} → Lawful m → Lawful-ranks ord → Works m ord b s w k y → Works m ord b s x l z
+    → (w ≡ x) × (k ≡ l) × (y ≡ z)
 one-works law ranks (is-done f) (is-done h) = (refl, refl, refl)
 one-works law ranks (is-done f) (is-met h n) = absurd (h f)
 one-works law ranks (is-done f) (is-spent h n) = absurd (h f)
@@ -41,7 +43,9 @@ one-works {m} {ord} law ranks (goes-on {b = b} f n move rest) (goes-on {k = l} {
     (same .0, ap suc (same .1), same .2)
 
 -- A call has one answer, and leaves one state.
-pub one-does : {m : Meaning} {ord : Order} {s y z : State} {c : Call} {a b : Answer} → Lawful m → Lawful-ranks ord → Does m ord s c a y → Does m ord s c b z → (a ≡ b) × (y ≡ z)
+pub one-does :
+    {m : Meaning} {ord : Order} {s y z : State} {c : Call} {a b : Answer} → Lawful m → Lawful-ranks ord → Does m ord s c a y → Does m ord s c b z
+    → (a ≡ b) × (y ≡ z)
 one-does law ranks (works costs wishes few ws) (works costs′ wishes′ few′ ws′) =
     let same = one-works law ranks ws ws′ in
     let word = same .0 in

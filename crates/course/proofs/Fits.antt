@@ -22,7 +22,9 @@ pub limit-fits : (m : Meaning) (s : State) → Paid-by m s → limit s < 2 ^ 32
 limit-fits m s paid = omega (arith, ceiling-low m s paid, limit-ceiling (s .ceiling) (s .standing))
 
 -- The numbers of a state of the focal set fit.
-pub numbers-fit : {m : Meaning} {s : State} {f u g : ℕ} → Lawful m → Kept m s → Paid-by m s → Allowed (s .p) (s .q) → Least m s f → Focal m s f u g → Fits-32 (numbers m s f u g)
+pub numbers-fit :
+    {m : Meaning} {s : State} {f u g : ℕ} → Lawful m → Kept m s → Paid-by m s → Allowed (s .p) (s .q) → Least m s f → Focal m s f u g
+    → Fits-32 (numbers m s f u g)
 numbers-fit {m} {s} {f} {u} {g} law kept paid allowed least focal =
     let limit = limit-fits m s paid in
     record {

@@ -82,7 +82,9 @@ focal-decided m s f u = go (live-decided m s u)
     ]
 
 -- The focal set in the order of its ranks.
-ranks-ordered : {ord : Order} → Lawful-ranks ord → (m : Meaning) (s : State) (f : ℕ) → Ordered (Focal m s f) (λ u g v h. ord (numbers m s f u g) (numbers m s f v h) ≡ true)
+ranks-ordered :
+    {ord : Order} → Lawful-ranks ord → (m : Meaning) (s : State) (f : ℕ)
+    → Ordered (Focal m s f) (λ u g v h. ord (numbers m s f u g) (numbers m s f v h) ≡ true)
 ranks-ordered ranks m s f = record {
   decide = focal-decided m s f;
   once = λ u g h a b. live-once (a .live) (b .live);
@@ -98,7 +100,9 @@ least-focal {m} {s} {f} allowed x = record {
 }
 
 -- So the focal set has a first.
-pub chosen-some : {m : Meaning} {ord : Order} {s : State} {f : ℕ} → Lawful m → Lawful-ranks ord → Kept m s → Allowed (s .p) (s .q) → Least m s f → (n : ℕ) × (g : ℕ) × Chosen m ord s f n g
+pub chosen-some :
+    {m : Meaning} {ord : Order} {s : State} {f : ℕ} → Lawful m → Lawful-ranks ord → Kept m s → Allowed (s .p) (s .q) → Least m s f
+    → (n : ℕ) × (g : ℕ) × Chosen m ord s f n g
 chosen-some {m} {s = s} {f = f} law ranks kept allowed x = elim (first-below (ranks-ordered ranks m s f) (m .states)) [
   | inl c ↦ (c .u, c .g, record { focal = c .holds; first = λ v h focal. c .first v h (live-in law kept (focal .live)) focal })
   | inr none ↦ absurd (none (x .at) (x .at-g) (live-in law kept (x .live)) (least-focal allowed x))
@@ -113,7 +117,9 @@ news-decided (opened r) t = elim (cases-lt t (r .g)) [ inl low ↦ inl low | inr
 news-decided (closed r) t = elim (cases-lt t (r .g)) [ inl low ↦ inl low | inr high ↦ inr (λ low. omega arith) ]
 
 -- A place that is tried does one of the five things.
-pub tried-some : {m : Meaning} {n g : ℕ} {ps : List (Option (ℕ × ℕ))} {s : State} → Lawful m → (x : Option (ℕ × ℕ)) → During m n g (x ∷ ps) s → (z : State) × Tried m n g x s z
+pub tried-some :
+    {m : Meaning} {n g : ℕ} {ps : List (Option (ℕ × ℕ))} {s : State} → Lawful m → (x : Option (ℕ × ℕ)) → During m n g (x ∷ ps) s
+    → (z : State) × Tried m n g x s z
 tried-some law None now = (_, empty)
 tried-some {m} {n} {g} {s = s} law (Some cut) now = elim (cases-lt (sum m (cut .0) (join g (cut .1))) (limit s)) [
   | inr high ↦ (_, dear high)
@@ -137,7 +143,9 @@ cuts-some law (x ∷ ps) now =
 -- THE MOVE AND THE WORK
 
 -- While the floor is below the limit a move can be made.
-pub move-some : {m : Meaning} {ord : Order} {s : State} → Lawful m → Lawful-ranks ord → Held m s → Allowed (s .p) (s .q) → s .floor < limit s → (z : State) × Move m ord s z
+pub move-some :
+    {m : Meaning} {ord : Order} {s : State} → Lawful m → Lawful-ranks ord → Held m s → Allowed (s .p) (s .q) → s .floor < limit s
+    → (z : State) × Move m ord s z
 move-some {m} {ord} {s} law ranks held allowed low = at (least-or-none law (held .kept))
   where
     at : ((f : ℕ) × Least m s f) ⊎ No-live m s → (z : State) × Move m ord s z
@@ -193,7 +201,8 @@ looks {m} {ord} b s on = at (decLe (limit s) (s .floor)) (met-decided s)
     at (no f) (inr n) = on f n
 
 -- A work comes to an end.
-pub works-some : {m : Meaning} {ord : Order} → Lawful m → Lawful-ranks ord → (b : ℕ) {s : State} → Held m s → Allowed (s .p) (s .q) → Outcome m ord b s
+pub works-some :
+    {m : Meaning} {ord : Order} → Lawful m → Lawful-ranks ord → (b : ℕ) {s : State} → Held m s → Allowed (s .p) (s .q) → Outcome m ord b s
 works-some law ranks zero {s} held allowed = looks 0 s (λ f n. record { word = spent; count = 0; left = s; works = is-spent f n })
 works-some law ranks (suc b) {s} held allowed = looks (suc b) s (λ f n.
     let x = move-some law ranks held allowed (omega arith) in

@@ -146,7 +146,9 @@ If-live Q top u (opened r) = sum P u (r .g) < top → Q u (r .g)
 If-live Q top u (closed r) = Unit {0}
 
 -- What holds of each of the four, if it is live, holds of all live states.
-all-live : (Q : ℕ → ℕ → Type 0) (s : State) → Unseen-beyond (s .mark) → If-live Q (limit s) 0 (s .mark 0) → If-live Q (limit s) 1 (s .mark 1) → If-live Q (limit s) 2 (s .mark 2) → If-live Q (limit s) 3 (s .mark 3) → (u g : ℕ) → Live P s u g → Q u g
+all-live :
+    (Q : ℕ → ℕ → Type 0) (s : State) → Unseen-beyond (s .mark) → If-live Q (limit s) 0 (s .mark 0) → If-live Q (limit s) 1 (s .mark 1)
+    → If-live Q (limit s) 2 (s .mark 2) → If-live Q (limit s) 3 (s .mark 3) → (u g : ℕ) → Live P s u g → Q u g
 all-live Q s beyond a b c d u g live = by-state (λ u. (g : ℕ) → Live P s u g → Q u g) (at 0 a) (at 1 b) (at 2 c) (at 3 d) out u g live
   where
     at : (u : ℕ) → If-live Q (limit s) u (s .mark u) → (g : ℕ) → Live P s u g → Q u g

@@ -49,7 +49,9 @@ pub data Works (m : Meaning) (ord : Order) : ℕ → State → Word → ℕ → 
   is-done : {b : ℕ} {s : State} → Finished s → Works m ord b s done 0 s
   is-met : {b : ℕ} {s : State} → (Finished s → ⊥) → Met s → Works m ord b s met 0 s
   is-spent : {s : State} → (Finished s → ⊥) → (Met s → ⊥) → Works m ord 0 s spent 0 s
-  goes-on : {b k : ℕ} {w : Word} {s y z : State} → (Finished s → ⊥) → (Met s → ⊥) → Move m ord s y → Works m ord b y w k z → Works m ord (suc b) s w (suc k) z
+  goes-on :
+      {b k : ℕ} {w : Word} {s y z : State} → (Finished s → ⊥) → (Met s → ⊥) → Move m ord s y → Works m ord b y w k z
+      → Works m ord (suc b) s w (suc k) z
 
 -- The ratios p/q that may be set: 1 ≤ q ≤ p ≤ 1,000.
 pub record Allowed (p q : ℕ) : Type 0 where
@@ -60,7 +62,9 @@ pub record Allowed (p q : ℕ) : Type 0 where
 -- One call: what it answers, and the state that it leaves. A refused call leaves the state as it was.
 pub data Does (m : Meaning) (ord : Order) : State → Call → Answer → State → Type 0 where
   -- work, with rows for all states and a budget that is allowed
-  works : {s z : State} {b c w k : ℕ} {word : Word} → m .states ≤ c → m .states ≤ w → b ≤ 65535 → Works m ord b s word k z → Does m ord s (work b c w) (worked word k) z
+  works :
+      {s z : State} {b c w k : ℕ} {word : Word} → m .states ≤ c → m .states ≤ w → b ≤ 65535 → Works m ord b s word k z
+      → Does m ord s (work b c w) (worked word k) z
   short-row : {s : State} {b c w : ℕ} → (c < m .states) ⊎ (w < m .states) → Does m ord s (work b c w) (refused (numberOf RowTooShort)) s
   over-budget : {s : State} {b c w : ℕ} → m .states ≤ c → m .states ≤ w → 65535 < b → Does m ord s (work b c w) (refused (numberOf BudgetTooLarge)) s
   -- ratio
@@ -72,8 +76,12 @@ pub data Does (m : Meaning) (ord : Order) : State → Call → Answer → State 
   -- show
   shows : {s : State} → Does m ord s show (shown (mapped (λ r. r .cost) (s .standing)) (s .floor) (s .moves) (s .ceiling) (s .p) (s .q)) s
   -- route, whose row need hold only the route that stands
-  tells : {s : State} {r : Standing} {row : ℕ} → s .standing ≡ Some r → length (r .path) ≤ row → Does m ord s (route row) (told (r .path) (r .cost) (s .floor)) s
-  no-room : {s : State} {r : Standing} {row : ℕ} → s .standing ≡ Some r → row < length (r .path) → Does m ord s (route row) (refused (numberOf RowTooShort)) s
+  tells :
+      {s : State} {r : Standing} {row : ℕ} → s .standing ≡ Some r → length (r .path) ≤ row
+      → Does m ord s (route row) (told (r .path) (r .cost) (s .floor)) s
+  no-room :
+      {s : State} {r : Standing} {row : ℕ} → s .standing ≡ Some r → row < length (r .path)
+      → Does m ord s (route row) (refused (numberOf RowTooShort)) s
   no-route : {s : State} {row : ℕ} → s .standing ≡ None → Does m ord s (route row) (refused (numberOf NoRoute)) s
 
 -- A last's life since it was clamped: its calls with their answers, the newest first, and the state that they left.

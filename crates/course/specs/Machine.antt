@@ -45,27 +45,49 @@ limit s = limit-of (s .ceiling) (s .standing)
 
 -- The mark of u becomes x.
 abbrev pub marked : State → ℕ → Mark → State
-marked s u x = record { mark = λ v. cond (eqb v u) x (s .mark v); standing = s .standing; ceiling = s .ceiling; p = s .p; q = s .q; floor = s .floor; moves = s .moves }
+marked s u x =
+    record {
+      mark = λ v. cond (eqb v u) x (s .mark v);
+      standing = s .standing;
+      ceiling = s .ceiling;
+      p = s .p;
+      q = s .q;
+      floor = s .floor;
+      moves = s .moves;
+    }
 
 -- Another route stands.
 abbrev pub stands : State → List ℕ → ℕ → State
-stands s path cost = record { mark = s .mark; standing = Some (record { path = path; cost = cost }); ceiling = s .ceiling; p = s .p; q = s .q; floor = s .floor; moves = s .moves }
+stands s path cost =
+    record {
+      mark = s .mark;
+      standing = Some (record { path = path; cost = cost });
+      ceiling = s .ceiling;
+      p = s .p;
+      q = s .q;
+      floor = s .floor;
+      moves = s .moves;
+    }
 
 -- The floor becomes another.
 abbrev pub raised-to : State → ℕ → State
-raised-to s floor = record { mark = s .mark; standing = s .standing; ceiling = s .ceiling; p = s .p; q = s .q; floor = floor; moves = s .moves }
+raised-to s floor =
+    record { mark = s .mark; standing = s .standing; ceiling = s .ceiling; p = s .p; q = s .q; floor = floor; moves = s .moves }
 
 -- One more move is counted.
 abbrev pub counted : State → State
-counted s = record { mark = s .mark; standing = s .standing; ceiling = s .ceiling; p = s .p; q = s .q; floor = s .floor; moves = s .moves + 1 }
+counted s =
+    record { mark = s .mark; standing = s .standing; ceiling = s .ceiling; p = s .p; q = s .q; floor = s .floor; moves = s .moves + 1 }
 
 -- The ratio becomes p/q.
 abbrev pub with-ratio : State → ℕ → ℕ → State
-with-ratio s p q = record { mark = s .mark; standing = s .standing; ceiling = s .ceiling; p = p; q = q; floor = s .floor; moves = s .moves }
+with-ratio s p q =
+    record { mark = s .mark; standing = s .standing; ceiling = s .ceiling; p = p; q = q; floor = s .floor; moves = s .moves }
 
 -- The ceiling becomes c.
 abbrev pub with-ceiling : State → ℕ → State
-with-ceiling s c = record { mark = s .mark; standing = s .standing; ceiling = c; p = s .p; q = s .q; floor = s .floor; moves = s .moves }
+with-ceiling s c =
+    record { mark = s .mark; standing = s .standing; ceiling = c; p = s .p; q = s .q; floor = s .floor; moves = s .moves }
 
 -- THE CHOICE OF A STATE
 
@@ -155,9 +177,13 @@ pub data Tried (m : Meaning) (n g : ℕ) : Option (ℕ × ℕ) → State → Sta
   dear : {v c : ℕ} {s : State} → limit s ≤ sum m v (join g c) → Tried m n g (Some (v, c)) s s
   -- the cut leads to the goal: the chain of n and then the goal is the standing route, at what that walk costs. This may be less than g and
   -- c joined, where a state of the chain was reached more cheaply since n was reached from it.
-  arrives : {v c d : ℕ} {path : List ℕ} {s : State} → sum m v (join g c) < limit s → v ≡ m .goal → Chain (s .mark) n path → Walk m (m .start) n path d → Tried m n g (Some (v, c)) s (stands s (path ++ v ∷ []) (join d c))
+  arrives :
+      {v c d : ℕ} {path : List ℕ} {s : State} → sum m v (join g c) < limit s → v ≡ m .goal → Chain (s .mark) n path → Walk m (m .start) n path d
+      → Tried m n g (Some (v, c)) s (stands s (path ++ v ∷ []) (join d c))
   -- the cut is news of another state, which is opened, a closed one again
-  opens : {v c : ℕ} {s : State} → sum m v (join g c) < limit s → (v ≡ m .goal → ⊥) → News (s .mark v) (join g c) → Tried m n g (Some (v, c)) s (marked s v (opened (record { g = join g c; from = Some n })))
+  opens :
+      {v c : ℕ} {s : State} → sum m v (join g c) < limit s → (v ≡ m .goal → ⊥) → News (s .mark v) (join g c)
+      → Tried m n g (Some (v, c)) s (marked s v (opened (record { g = join g c; from = Some n })))
   -- the cut is no news of another state
   keeps : {v c : ℕ} {s : State} → sum m v (join g c) < limit s → (v ≡ m .goal → ⊥) → (News (s .mark v) (join g c) → ⊥) → Tried m n g (Some (v, c)) s s
 
@@ -187,4 +213,13 @@ pub record Move (m : Meaning) (ord : Order) (s z : State) : Type 0 where
 -- What clamping begins with, before it raises the floor: only the start is seen, open at 0; no route stands, the ceiling is 1,023,000, the
 -- ratio 1/1, the floor 0, the moves 0.
 abbrev pub fresh : Meaning → State
-fresh m = record { mark = λ u. cond (eqb u (m .start)) (opened (record { g = 0; from = None })) unseen; standing = None; ceiling = 1023000; p = 1; q = 1; floor = 0; moves = 0 }
+fresh m =
+    record {
+      mark = λ u. cond (eqb u (m .start)) (opened (record { g = 0; from = None })) unseen;
+      standing = None;
+      ceiling = 1023000;
+      p = 1;
+      q = 1;
+      floor = 0;
+      moves = 0;
+    }

@@ -1,8 +1,8 @@
 -- Every call has an answer and a state that it leaves, and only one of each.
-use mathlib.Core.Path.{_≡_, refl, sym, ap, subst}
+use mathlib.Core.Path.{_≡_, refl, ap, subst}
 use mathlib.Core.Logic.{_⊎_, inl, inr}
 use mathlib.Core.List.{[]}
-use Prim.Native.Nat.{ℕ, suc, _≤_, _<_}
+use Prim.Native.Nat.{ℕ, suc, _≤_}
 use native.Mathlib.Decide.{decLe}
 use native.Mathlib.Omega.{arith}
 use lib.ListN.{length}
@@ -12,7 +12,7 @@ use Rattle.std.proofs.shelf.Tests.{cases-lt}
 use Rattle.course.specs.Blanks.{Meaning, Lawful}
 use Rattle.course.specs.Machine.{State, Standing, with-ceiling, Order, Lawful-ranks}
 use Rattle.course.specs.Calls.{Word, Works, is-done, is-met, is-spent, goes-on, Allowed, Call, work, ratio, ceiling, show, route, Answer, Does, works, short-row, over-budget, agrees, no-ratio, lowers, too-high, shows, tells, no-room, no-route, Life, clamped}
-use Rattle.course.specs.Promises.{Answered, Calls-answered, Begun, Clamping-begins}
+use Rattle.course.specs.Promises.{Calls-answered, Clamping-begins}
 use Rattle.course.proofs.Outcomes.{one-raised, one-move}
 use Rattle.course.proofs.Moves.{Kept}
 use Rattle.course.proofs.Floor.{Held, fresh-kept}

@@ -4,7 +4,7 @@ use mathlib.Core.Path.{_≡_, refl, sym, subst, ap}
 use mathlib.Core.Logic.{_⊎_, inl, inr}
 use mathlib.Core.List.{List, [], _∷_}
 use mathlib.Core.Bool.{true}
-use Prim.Native.Nat.{ℕ, zero, suc, _*_, _≤_, _<_, min, max}
+use Prim.Native.Nat.{ℕ, zero, suc, _*_, _≤_, _<_}
 use native.Mathlib.Nat.{mul-le-mul-right, mul-comm}
 use native.Mathlib.Decide.{decLe}
 use native.Mathlib.Omega.{arith}
@@ -14,10 +14,10 @@ use Rattle.std.proofs.shelf.Tests.{cases-lt, cases-eq}
 use Rattle.course.specs.Blanks.{join, Meaning, Lawful}
 use Rattle.course.specs.Machine.{Reach, Mark, unseen, opened, closed, Standing, State, limit, sum, Live, Least, No-live, Focal, numbers, Order, Lawful-ranks, Chosen, News, Tried, empty, dear, arrives, opens, keeps, Cuts, end, next, Raised, to-least, to-limit, Move}
 use Rattle.course.specs.Calls.{Word, done, met, spent, Finished, Met, Works, is-done, is-met, is-spent, goes-on, Allowed}
-use Rattle.course.proofs.Found.{Ordered, First, first-below}
+use Rattle.course.proofs.Found.{Ordered, first-below}
 use Rattle.course.proofs.Moves.{Kept, During, during-walked, tried-keeps, closes, cuts-keep}
-use Rattle.course.proofs.Settled.{all-settled}
 use Rattle.course.proofs.Floor.{Held, live-in, moved-held}
+use Rattle.course.proofs.Outcomes.{one-live}
 use Rattle.course.proofs.Cuts.{move-from}
 use Rattle.course.proofs.Courses.{move-allowed}
 
@@ -25,11 +25,7 @@ use Rattle.course.proofs.Courses.{move-allowed}
 
 -- A state is live at one cost.
 live-once : {m : Meaning} {s : State} {u g h : ℕ} → Live m s u g → Live m s u h → g ≡ h
-live-once {g = g} {h = h} a b =
-    let x = a .is-open in
-    let y = b .is-open in
-    let same : _≡_ {A = Reach} (record { g = g; from = a .from }) (record { g = h; from = b .from }) = cc in
-    ap (λ (r : Reach). r .g) same
+live-once a b = ap (λ (r : Reach). r .g) (one-live a b refl)
 
 -- A state is live or not.
 pub live-decided : (m : Meaning) (s : State) (u : ℕ) → ((g : ℕ) × Live m s u g) ⊎ ((g : ℕ) → Live m s u g → ⊥)

@@ -1,15 +1,15 @@
 -- The worked blank P is lawful, and its life is one.
-use mathlib.Core.Path.{_≡_, refl, sym, ap, subst, _∙_}
+use mathlib.Core.Path.{_≡_, refl, sym, subst, _∙_}
 use mathlib.Core.Bool.{true}
-use mathlib.Core.Logic.{_⊎_, inl, inr}
+use mathlib.Core.Logic.{inl, inr}
 use mathlib.Core.List.{List, [], _∷_}
 use Prim.Native.Nat.{ℕ, zero, suc, _*_, _≤_, _<_}
 use native.Mathlib.Omega.{arith}
 use lib.ListN.{length, getD}
 use Rattle.std.specs.declared.option.Option.{Option}
 use Rattle.std.specs.declared.option.Option.the-variants.{Some, None}
-use Rattle.course.specs.Blanks.{join, Meaning, Leads, Walk, stay, cut, Lawful}
-use Rattle.course.specs.Machine.{Reach, Mark, unseen, opened, closed, State, limit, marked, stands, raised-to, counted, with-ratio, fresh, sum, Live, Least, No-live, Focal, numbers, Order, Lawful-ranks, Chosen, Chain, root, link, Tried, arrives, opens, Cuts, end, next, Raised, to-least, to-limit, Move}
+use Rattle.course.specs.Blanks.{join, Leads, Walk, stay, cut, Lawful}
+use Rattle.course.specs.Machine.{Reach, Mark, unseen, opened, closed, State, limit, marked, stands, raised-to, counted, with-ratio, fresh, sum, Live, Least, No-live, numbers, Order, Lawful-ranks, Chosen, root, link, arrives, opens, Cuts, end, next, to-least, to-limit, Move}
 use Rattle.course.specs.Calls.{Word, done, met, spent, work, ratio, worked, set, Works, is-done, is-met, is-spent, goes-on, Allowed, Does, works, over-budget, agrees, shows, tells, Life, clamped, then}
 use Rattle.course.specs.Worked.{P, calls-of-P, Worked-out}
 use Rattle.course.proofs.Marks.{put, put-other, unseen-out}

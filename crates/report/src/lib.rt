@@ -174,10 +174,30 @@ mod tests {
 
     #[test]
     fn tables_are_faulted(rt: LibcRuntime) -> Result<(), Fail> {
-        prints(&rt, b"(last 2 (start 0) (goal 2))\n(from 0 (1 9))\n(from 1)\n(estimates 9 0)\n", "fault 3 6 0\n")?;
-        prints(&rt, b"(last 2 (start 0) (goal 1))\n(from 0 (0 9))\n(from 1)\n(estimates 9 0)\n", "fault 3 7 0\n")?;
-        prints(&rt, b"(last 2 (start 0) (goal 1))\n(from 0 (1 0))\n(from 1)\n(estimates 9 0)\n", "fault 3 8 0\n")?;
-        prints(&rt, b"(last 2 (start 0) (goal 1))\n(from 0 (1 9))\n(from 1)\n(estimates 9 1)\n", "fault 3 9 1\n")?;
-        prints(&rt, b"(last 2 (start 0) (goal 1))\n(from 0 (1 9))\n(from 1)\n(estimates 10 0)\n", "fault 3 10 0\n")
+        prints(
+            &rt,
+            b"(last 2 (start 0) (goal 2))\n(from 0 (1 9))\n(from 1)\n(estimates 9 0)\n",
+            "fault 3 6 0\n",
+        )?;
+        prints(
+            &rt,
+            b"(last 2 (start 0) (goal 1))\n(from 0 (0 9))\n(from 1)\n(estimates 9 0)\n",
+            "fault 3 7 0\n",
+        )?;
+        prints(
+            &rt,
+            b"(last 2 (start 0) (goal 1))\n(from 0 (1 0))\n(from 1)\n(estimates 9 0)\n",
+            "fault 3 8 0\n",
+        )?;
+        prints(
+            &rt,
+            b"(last 2 (start 0) (goal 1))\n(from 0 (1 9))\n(from 1)\n(estimates 9 1)\n",
+            "fault 3 9 1\n",
+        )?;
+        prints(
+            &rt,
+            b"(last 2 (start 0) (goal 1))\n(from 0 (1 9))\n(from 1)\n(estimates 10 0)\n",
+            "fault 3 10 0\n",
+        )
     }
 }

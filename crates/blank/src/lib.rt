@@ -1,9 +1,6 @@
-// Blanks: what the search runs over. So far the rows of a table and their check. It stands on course.
-mod flaw;
-mod table;
+// Blanks: what the search runs over, by one interface. It stands on course.
+mod blank_trait;
+mod lent;
 
-pub use flaw::Flaw;
-pub use flaw::FlawDebug;
-pub use flaw::FlawEq;
-pub use flaw::FlawPartialEq;
-pub use table::TableRows;
+pub use blank_trait::Blank;
+pub use lent::LentBlank;

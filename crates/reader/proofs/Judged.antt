@@ -8,7 +8,7 @@ use lib.ListN.{length}
 use lib.Dec.{leb}
 use Rattle.std.proofs.shelf.Tests.{le-leb, lt-leb}
 use Rattle.course.specs.Refusals.{numberOf}
-use Rattle.blank.specs.Table.{Rows, Passes, Worst}
+use Rattle.table.specs.Table.{Rows, Passes, Worst}
 use Rattle.text.specs.declared.Fault.{Fault}
 use Rattle.text.specs.declared.Layer.the-variants.{Table}
 use Rattle.text.specs.Layers.{layerNumber}

@@ -14,7 +14,7 @@ use Rattle.std.specs.declared.result.Result.the-variants.{Ok, Err}
 use Rattle.std.specs.declared.vec.Vec.{Vec}
 use Rattle.std.specs.declared.alloc.Global.{Global}
 use Rattle.std.proofs.shelf.Tests.{and-from, and-left, and-right, le-leb, lt-leb}
-use Rattle.blank.specs.Table.{Rows}
+use Rattle.table.specs.Table.{Rows}
 use Rattle.text.specs.declared.Fault.{Fault}
 use Rattle.text.specs.declared.Order.{Order}
 use Rattle.text.specs.Forms.{Form, Got, got, fault, andThen, follow}

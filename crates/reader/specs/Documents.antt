@@ -6,7 +6,7 @@ use Rattle.std.specs.Of.Vec.{vec-items}
 use Rattle.std.specs.declared.result.Result.{Result}
 use Rattle.std.specs.declared.result.Result.the-variants.{Ok, Err}
 use Rattle.course.specs.Refusals.{numberOf}
-use Rattle.blank.specs.Table.{Rows, Passes, Worst}
+use Rattle.table.specs.Table.{Rows, Passes, Worst}
 use Rattle.text.specs.declared.Fault.{Fault}
 use Rattle.text.specs.declared.Layer.the-variants.{Table}
 use Rattle.text.specs.Forms.{got}

@@ -1,7 +1,7 @@
 // What a text holds, and the verdict on every text.
 ghost use mathlib.Core.Path.{_≡_};
 ghost use Rattle.std.specs.Of.Vec.{vec-items};
-ghost use Rattle.blank.specs.Checks.{rowsIn, Checked};
+ghost use Rattle.table.specs.Checks.{rowsIn, Checked};
 ghost use Rattle.text.specs.Promises.{Verdict-laws};
 ghost use Rattle.reader.specs.Documents.{rowsOf, BodyTold, DocumentTold, CheckTold};
 ghost use Rattle.reader.specs.Verdict.{Answers};
@@ -9,8 +9,8 @@ use crate::errors::FaultToError;
 use crate::errors::ReadError;
 use crate::forms::Head;
 use crate::marks::Reader;
-use blank::Flaw;
-use blank::TableRows;
+use table::Flaw;
+use table::TableRows;
 use course::Refusal;
 use std::alloc::Global;
 use text::Fault;

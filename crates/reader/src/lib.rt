@@ -1,4 +1,4 @@
-// The reader of a text: its marks, its forms, and what it holds. It meets the rules of text. It stands on text, blank and course.
+// The reader of a text: its marks, its forms, and what it holds. It meets the rules of text. It stands on text, table and course.
 mod document;
 mod errors;
 mod forms;

@@ -5,7 +5,7 @@ use Prim.Native.Nat.{ℕ}
 use lib.ListN.{length}
 use Rattle.std.specs.Of.Vec.{vec-items}
 use Rattle.course.specs.Refusals.{numberOf}
-use Rattle.blank.specs.Table.{Shape}
+use Rattle.table.specs.Table.{Shape}
 use Rattle.std.specs.declared.result.Result.the-variants.{Err}
 use Rattle.text.specs.Layers.{layerNumber}
 use Rattle.text.specs.Rows.{rows-of}

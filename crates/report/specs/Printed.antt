@@ -7,7 +7,7 @@ use lib.Chars.{codes}
 use Rattle.std.specs.Iters.{counting}
 use Rattle.std.specs.Written.{decimal}
 use Rattle.std.specs.shelf.Lists.{joined}
-use Rattle.blank.specs.Table.{Rows, states}
+use Rattle.table.specs.Table.{Rows, states}
 use Rattle.course.specs.Refusals.{numberOf}
 use Rattle.text.specs.declared.Fault.{Fault}
 use Rattle.text.specs.Layers.{layerNumber}

@@ -1,4 +1,4 @@
-// What carve prints for a text. It stands on reader, text, blank and course.
+// What carve prints for a text. It stands on reader, text, table and course.
 ghost use mathlib.Core.Path.{_≡_};
 ghost use mathlib.Core.List.{[], _++_};
 ghost use Prim.Native.Nat.{_+_, _<_, _≤_};
@@ -7,11 +7,11 @@ ghost use lib.Chars.{codes};
 ghost use Rattle.std.specs.Of.String.{string-bytes};
 ghost use Rattle.std.specs.Of.Vec.{vec-items};
 ghost use Rattle.std.specs.Vec.{made};
-ghost use Rattle.blank.specs.Table.{Shape};
-ghost use Rattle.blank.specs.Checks.{rowsIn};
+ghost use Rattle.table.specs.Table.{Shape};
+ghost use Rattle.table.specs.Checks.{rowsIn};
 ghost use Rattle.reader.specs.Documents.{rowsOf};
 ghost use Rattle.report.specs.Printed.{fault-line, count-line, cut-line, spaced, number-items, state-cuts, all-cuts, estimates-line, listing, Complains, Prints};
-use blank::TableRows;
+use table::TableRows;
 use reader::Document;
 use reader::ReadError;
 use reader::read;

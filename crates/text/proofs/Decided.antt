@@ -9,7 +9,7 @@ use Rattle.std.proofs.shelf.Tests.{cases-lt, cases-eq}
 use Rattle.text.specs.Forms.{Got, got, fault}
 use Rattle.text.specs.Document.{Document}
 use Rattle.text.specs.Reading.{parsed}
-use Rattle.blank.specs.Table.{Rows, states, Shape, Ends, Holds, GoodTarget, GoodCost, GoodEstimate, GoodSlope, Bad, shape, ends, target, cost, estimate, slope, Passes, Worst}
+use Rattle.table.specs.Table.{Rows, states, Shape, Ends, Holds, GoodTarget, GoodCost, GoodEstimate, GoodSlope, Bad, shape, ends, target, cost, estimate, slope, Passes, Worst}
 use Rattle.text.specs.Rows.{rows-of}
 use Rattle.text.specs.Verdicts.{Verdict, accepted, refused, Concludes}
 use Rattle.text.specs.Promises.{Verdict-stands}

@@ -13,7 +13,7 @@ use Rattle.text.specs.Forms.{filled, Got, got, fault, andThen, follow}
 use Rattle.text.specs.Document.{Cut, Document, Short, WellFormed, written, first-line, estimates-line, lines-text, orders-text}
 use Rattle.text.specs.declared.Order.{Order}
 use Rattle.text.specs.Reading.{lines-from, orders-from, body, document, parsed}
-use Rattle.blank.specs.Table.{Worst}
+use Rattle.table.specs.Table.{Worst}
 use Rattle.text.specs.Rows.{rows-of}
 use Rattle.text.specs.Verdicts.{accepted, refused, Concludes, Says}
 use Rattle.text.specs.Causes.{Allowed}

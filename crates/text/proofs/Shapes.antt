@@ -8,7 +8,7 @@ use lib.ListN.{length, getD}
 use Rattle.std.specs.shelf.Lists.{joined}
 use Rattle.std.proofs.shelf.Lists.{length-append, length-map}
 use Rattle.text.specs.Document.{Cut, Document, WellFormed, total}
-use Rattle.blank.specs.Table.{Shape}
+use Rattle.table.specs.Table.{Shape}
 use Rattle.text.specs.Rows.{firsts-after, rows-of}
 
 firsts-many : (e : ℕ) (css : List (List Cut)) → length (firsts-after e css) ≡ length css + 1

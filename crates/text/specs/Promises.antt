@@ -5,7 +5,7 @@ use Prim.Native.Nat.{ℕ, _≤_}
 use lib.ListN.{length, take, drop}
 use Rattle.text.specs.Marks.{next}
 use Rattle.text.specs.Document.{Document, WellFormed, Shaped, written}
-use Rattle.blank.specs.Table.{Passes}
+use Rattle.table.specs.Table.{Passes}
 use Rattle.text.specs.Rows.{rows-of}
 use Rattle.text.specs.Verdicts.{Verdict, Says, accepted, refused}
 use Rattle.text.specs.Causes.{Told, Miscounted}

@@ -3,7 +3,7 @@ use mathlib.Core.List.{List, [], _∷_, map}
 use Prim.Native.Nat.{ℕ, _+_}
 use lib.ListN.{length}
 use Rattle.std.specs.shelf.Lists.{joined}
-use Rattle.blank.specs.Table.{Rows}
+use Rattle.table.specs.Table.{Rows}
 use Rattle.text.specs.Document.{Document, Cut}
 
 -- Where the entries of each state begin, if those of the first begin at e, and where those of the last end.

@@ -5,7 +5,7 @@ use Prim.Native.Nat.{ℕ}
 use Rattle.text.specs.Forms.{Got, got, fault}
 use Rattle.text.specs.Document.{Document}
 use Rattle.text.specs.Reading.{parsed}
-use Rattle.blank.specs.Table.{Passes, Worst}
+use Rattle.table.specs.Table.{Passes, Worst}
 use Rattle.text.specs.Rows.{rows-of}
 
 -- A text is accepted, with the document that it holds, or refused, with a fault's layer, cause and place. In layer 3 the place is not one in

@@ -4,8 +4,8 @@ use lib.ListN.{length}
 use lib.Chars.{codes}
 use Rattle.std.specs.Of.String.{string-bytes}
 use Rattle.std.specs.Of.Vec.{vec-items}
-use Rattle.blank.specs.Table.{Rows, Shape, states}
-use Rattle.blank.specs.Checks.{rowsIn}
+use Rattle.table.specs.Table.{Rows, Shape, states}
+use Rattle.table.specs.Checks.{rowsIn}
 use Rattle.reader.specs.Documents.{rowsOf}
 use Rattle.report.specs.Printed.{count-line, all-cuts, estimates-line, listing}
 use Rattle.report.proofs.Listed.{six-pieces}

@@ -1,6 +1,6 @@
 use native.Mathlib.Omega.{arith}
 use Rattle.std.specs.Of.String.{string-bytes}
-use Rattle.blank.specs.Checks.{rowsIn}
+use Rattle.table.specs.Checks.{rowsIn}
 use Rattle.report.specs.Printed.{state-cuts}
 use Rattle.report.proofs.Listed.{piece-more}
 use Rattle.report.proofs.push_cuts.Needs as need

@@ -4,7 +4,7 @@ use Prim.Native.Nat.{_-_}
 use Rattle.std.specs.Iters.{counting}
 use Rattle.std.specs.Of.String.{string-bytes}
 use Rattle.std.specs.shelf.Lists.{joined}
-use Rattle.blank.specs.Checks.{rowsIn}
+use Rattle.table.specs.Checks.{rowsIn}
 use Rattle.report.specs.Printed.{state-cuts}
 use Rattle.report.proofs.push_cuts.Given as given
 

@@ -3,9 +3,9 @@ use Prim.Native.Nat.{ℕ, _+_, _≤_, _<_}
 use native.Mathlib.Omega.{arith}
 use lib.ListN.{length, getD}
 use Rattle.std.specs.Of.String.{string-bytes}
-use Rattle.blank.specs.Table.{Rows, states, Shape}
-use Rattle.blank.specs.Checks.{rowsIn}
-use Rattle.blank.proofs.Firsts.{entry-within}
+use Rattle.table.specs.Table.{Rows, states, Shape}
+use Rattle.table.specs.Checks.{rowsIn}
+use Rattle.table.proofs.Firsts.{entry-within}
 use Rattle.report.specs.Printed.{entry-line}
 use Rattle.report.proofs.Listed.{piece-more}
 use Rattle.report.proofs.push_state.Needs as need

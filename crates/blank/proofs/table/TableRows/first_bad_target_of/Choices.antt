@@ -1,7 +1,0 @@
-use Rattle.blank.specs.Table.{GoodTarget}
-use Rattle.blank.specs.Checks.{rowsIn, Lapse}
-use Rattle.blank.proofs.Firsts.{Clear}
-use Rattle.blank.proofs.table.TableRows.first_bad_target_of.Given as given
-
-abbrev pub Inv-loop-e : given.InvT-loop-e
-Inv-loop-e l = Clear (Lapse (rowsIn (l .self)) (GoodTarget (rowsIn (l .self))) (l .u)) (l .e)

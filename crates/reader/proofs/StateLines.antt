@@ -18,6 +18,7 @@ use Rattle.text.specs.Reading.{cuts-from, lines-from}
 use Rattle.text.specs.Rows.{firsts-after, targets-of, costs-of}
 use Rattle.text.proofs.Forms.{went, goes}
 use Rattle.text.proofs.Cuts.{cuts-sound}
+use Rattle.text.proofs.Shapes.{row-many}
 use Rattle.reader.specs.declared.marks.Reader.{Reader}
 use Rattle.reader.specs.declared.lines.CutRows.{CutRows}
 use Rattle.reader.specs.declared.lines.Lines.{Lines}
@@ -42,14 +43,9 @@ firsts-begin e (cs ∷ css) =
     let same : e + length cs + total css ≡ e + (length cs + total css) = omega arith in
     ap (λ z. e ∷ z) (firsts-begin (e + length cs) css ∙ ap (λ n. begins (e + length cs) css ++ n ∷ []) same)
 
-count-targets : (css : List (List Cut)) → length (targets-of css) ≡ total css
-count-targets [] = refl
-count-targets (cs ∷ css) =
-    omega (arith, length-append (map (λ (c : Cut). c .target) cs) (targets-of css), length-map cs (λ (c : Cut). c .target), count-targets css)
-
 -- So many entries stand before the next state.
 entries : (xs : List ℕ) (css : List (List Cut)) → xs ≡ targets-of css → length xs ≡ 0 + total css
-entries xs css e = ap length e ∙ count-targets css ∙ sym (zero-add (total css))
+entries xs css e = ap length e ∙ row-many (λ (c : Cut). c .target) css ∙ sym (zero-add (total css))
 
 -- The lines of one state more are its own line and those behind it.
 lines-step :

@@ -9,53 +9,23 @@ use Rattle.std.specs.declared.option.Option.the-variants.{Some, None}
 use Rattle.table.specs.Table.{Rows, states, Shape, Ends, GoodTarget, GoodCost, GoodEstimate, GoodSlope, Bad, shape, ends, target, cost, estimate, slope, Passes, Worst}
 use Rattle.table.specs.Checks.{First, Lapse}
 
-pub bad-five : (r : Rows) (c e : ℕ) → Bad r c e → c ≡ 5 → Shape r → ⊥
-bad-five r c e (shape f) h = f
-bad-five r c e (ends f) h = absurd (omega arith)
-bad-five r c e (target u e1 k f) h = absurd (omega arith)
-bad-five r c e (cost e1 k f) h = absurd (omega arith)
-bad-five r c e (estimate s k f) h = absurd (omega arith)
-bad-five r c e (slope u e1 k f) h = absurd (omega arith)
+pub bad-five : (r : Rows) (e : ℕ) → Bad r 5 e → (e ≡ 0) × (Shape r → ⊥)
+bad-five r e (shape f) = (refl, f)
 
-pub bad-six : (r : Rows) (c e : ℕ) → Bad r c e → c ≡ 6 → Ends r → ⊥
-bad-six r c e (shape f) h = absurd (omega arith)
-bad-six r c e (ends f) h = f
-bad-six r c e (target u e1 k f) h = absurd (omega arith)
-bad-six r c e (cost e1 k f) h = absurd (omega arith)
-bad-six r c e (estimate s k f) h = absurd (omega arith)
-bad-six r c e (slope u e1 k f) h = absurd (omega arith)
+pub bad-six : (r : Rows) (e : ℕ) → Bad r 6 e → (e ≡ 0) × (Ends r → ⊥)
+bad-six r e (ends f) = (refl, f)
 
-pub bad-seven : (r : Rows) (c e : ℕ) → Bad r c e → c ≡ 7 → (u : ℕ) × Lapse r (GoodTarget r) u e
-bad-seven r c e (shape f) h = absurd (omega arith)
-bad-seven r c e (ends f) h = absurd (omega arith)
-bad-seven r c e (target u e1 k f) h = (u, record { held = k; fails = f })
-bad-seven r c e (cost e1 k f) h = absurd (omega arith)
-bad-seven r c e (estimate s k f) h = absurd (omega arith)
-bad-seven r c e (slope u e1 k f) h = absurd (omega arith)
+pub bad-seven : (r : Rows) (e : ℕ) → Bad r 7 e → (u : ℕ) × Lapse r (GoodTarget r) u e
+bad-seven r e (target u e1 k f) = (u, record { held = k; fails = f })
 
-pub bad-eight : (r : Rows) (c e : ℕ) → Bad r c e → c ≡ 8 → (e < length (r .costs)) × (GoodCost (getD (r .costs) e 0) → ⊥)
-bad-eight r c e (shape f) h = absurd (omega arith)
-bad-eight r c e (ends f) h = absurd (omega arith)
-bad-eight r c e (target u e1 k f) h = absurd (omega arith)
-bad-eight r c e (cost e1 k f) h = (k, f)
-bad-eight r c e (estimate s k f) h = absurd (omega arith)
-bad-eight r c e (slope u e1 k f) h = absurd (omega arith)
+pub bad-eight : (r : Rows) (e : ℕ) → Bad r 8 e → (e < length (r .costs)) × (GoodCost (getD (r .costs) e 0) → ⊥)
+bad-eight r e (cost e1 k f) = (k, f)
 
-pub bad-nine : (r : Rows) (c e : ℕ) → Bad r c e → c ≡ 9 → (e < states r) × (GoodEstimate r e → ⊥)
-bad-nine r c e (shape f) h = absurd (omega arith)
-bad-nine r c e (ends f) h = absurd (omega arith)
-bad-nine r c e (target u e1 k f) h = absurd (omega arith)
-bad-nine r c e (cost e1 k f) h = absurd (omega arith)
-bad-nine r c e (estimate s k f) h = (k, f)
-bad-nine r c e (slope u e1 k f) h = absurd (omega arith)
+pub bad-nine : (r : Rows) (e : ℕ) → Bad r 9 e → (e < states r) × (GoodEstimate r e → ⊥)
+bad-nine r e (estimate s k f) = (k, f)
 
-pub bad-ten : (r : Rows) (c e : ℕ) → Bad r c e → c ≡ 10 → (u : ℕ) × Lapse r (GoodSlope r) u e
-bad-ten r c e (shape f) h = absurd (omega arith)
-bad-ten r c e (ends f) h = absurd (omega arith)
-bad-ten r c e (target u e1 k f) h = absurd (omega arith)
-bad-ten r c e (cost e1 k f) h = absurd (omega arith)
-bad-ten r c e (estimate s k f) h = absurd (omega arith)
-bad-ten r c e (slope u e1 k f) h = (u, record { held = k; fails = f })
+pub bad-ten : (r : Rows) (e : ℕ) → Bad r 10 e → (u : ℕ) × Lapse r (GoodSlope r) u e
+bad-ten r e (slope u e1 k f) = (u, record { held = k; fails = f })
 
 pub bad-cause : (r : Rows) (c e : ℕ) → Bad r c e → (5 ≤ c) × (c ≤ 10)
 bad-cause r c e (shape f) = (omega arith, omega arith)
@@ -92,10 +62,10 @@ worst-first r c p h f =
     }
 
 pub from-six : (r : Rows) → Shape r → From r 6
-from-six r s = from-more r 5 (λ c e x. bad-cause r c e x .0) (λ e x. bad-five r 5 e x refl s)
+from-six r s = from-more r 5 (λ c e x. bad-cause r c e x .0) (λ e x. bad-five r e x .1 s)
 
 pub from-seven : (r : Rows) → Shape r → Ends r → From r 7
-from-seven r s t = from-more r 6 (from-six r s) (λ e x. bad-six r 6 e x refl t)
+from-seven r s t = from-more r 6 (from-six r s) (λ e x. bad-six r e x .1 t)
 
 pub worst-shape : (r : Rows) → (Shape r → ⊥) → Worst r 5 0
 worst-shape r f = worst-first r 5 0 (λ c e x. bad-cause r c e x .0) (shape f, λ k x. omega arith)

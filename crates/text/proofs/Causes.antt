@@ -20,7 +20,7 @@ use Rattle.text.specs.Causes.{Full, Run, Spot, Told, outside, badly, too-long,
 use Rattle.text.specs.Document.{Document}
 use Rattle.text.specs.Verdicts.{refused, Concludes, Says}
 use Rattle.text.specs.Promises.{Causes-are-told, One-cause, Too-much-is-told}
-use Rattle.text.proofs.Runs.{Stops, front-passes, leading-some, digit-kind}
+use Rattle.text.proofs.Runs.{stops-first, first-stops, front-passes, leading-some, digit-kind}
 use Rattle.text.proofs.Marks.{begins-with, shows-figures}
 use Rattle.text.proofs.Forms.{apart}
 use Rattle.text.proofs.Local.{leading-stops}
@@ -33,14 +33,6 @@ use Rattle.text.proofs.Full.{full-read}
 data NoMark (bs : List ℕ) (c : ℕ) : Type 0 where
   a-byte : c ≡ 1 → 0 < length bs → kind (getD bs 0 0) ≡ Outside → NoMark bs c
   a-run : c ≡ 2 → (ds : List ℕ) → Run ds bs → badlyWritten ds ≡ true → NoMark bs c
-
-stops-first : (bs : List ℕ) → Stops isDigit bs → isDigit (getD bs 0 0) ≡ false
-stops-first [] h = refl
-stops-first (b ∷ bs) h = h
-
-first-stops : (bs : List ℕ) → isDigit (getD bs 0 0) ≡ false → Stops isDigit bs
-first-stops [] h = tt
-first-stops (b ∷ bs) h = h
 
 bad-mark : (bs : List ℕ) (c : ℕ) → next bs ≡ bad c → NoMark bs c
 bad-mark [] c e = let z : _≡_ {A = ℕ} 0 1 = cc in apart z
@@ -60,7 +52,7 @@ bad-mark (b ∷ bs) c e = go (kind b) refl e
           digits = front-passes isDigit (b ∷ bs);
           rest = drop n (b ∷ bs);
           is = sym (take-append-drop n (b ∷ bs));
-          ends = stops-first (drop n (b ∷ bs)) (leading-stops isDigit (b ∷ bs));
+          ends = stops-first isDigit refl (drop n (b ∷ bs)) (leading-stops isDigit (b ∷ bs));
         })
         t
     digits k false t e = let z : _≡_ {A = ℕ} 0 1 = cc in apart z
@@ -77,7 +69,7 @@ outside-mark (b ∷ bs) h e = ap (λ k. markOf k b (b ∷ bs)) e
 
 run-mark : (ds bs : List ℕ) → Run ds bs → badlyWritten ds ≡ true → next bs ≡ bad 2
 run-mark ds bs h t =
-    ap next (h .is) ∙ shows-figures ds (h .rest) (h .some) (h .digits) (first-stops (h .rest) (h .ends)) .is
+    ap next (h .is) ∙ shows-figures ds (h .rest) (h .some) (h .digits) (first-stops isDigit (h .rest) (h .ends)) .is
     ∙ cond-true (badlyWritten ds) (bad 2) (number (value 10 ds)) t
 
 as-told : (text : List ℕ) (p i j l c : ℕ) → i ≡ l → j ≡ c → Told text p i j → Told text p l c

@@ -5,6 +5,7 @@ use mathlib.Core.List.{List, [], _∷_, _++_}
 use Prim.Native.Nat.{ℕ, _≤_}
 use native.Mathlib.Omega.{arith}
 use lib.ListN.{length}
+use Rattle.table.proofs.Causes.{bad-five}
 use Rattle.text.specs.Forms.{filled, Got, fault, follow}
 use Rattle.text.specs.Document.{Document, first-line}
 use Rattle.text.specs.Reading.{document}
@@ -15,7 +16,6 @@ use Rattle.text.specs.Promises.{Bad-count-is-told}
 use Rattle.text.proofs.Forms.{goes}
 use Rattle.text.proofs.Documents.{counts, counts-true, by-count, after-head, first-line-read, parsed-short, Refusal, long, stopped, checked, refusal}
 use Rattle.text.proofs.Begun.{why-layer, at-beginning, at-count, document-stopped}
-use Rattle.text.proofs.Decided.{bad-five}
 use Rattle.text.proofs.Shapes.{read-shape}
 
 miscounted-read : (text : List ℕ) → Miscounted text → document text ≡ fault 3 5 0

@@ -18,8 +18,8 @@ use Rattle.text.specs.Rows.{rows-of}
 use Rattle.text.specs.Verdicts.{accepted, refused, Concludes, Says}
 use Rattle.text.specs.Causes.{Allowed}
 use Rattle.text.specs.Promises.{Writes, Accepted-is-written}
-use Rattle.text.proofs.Forms.{went, goes, Fits, follow-sound, Spaced}
-use Rattle.text.proofs.Cuts.{never, follow-to, lines-sound, lines-complete}
+use Rattle.text.proofs.Forms.{went, goes, no-got, Fits, follow-sound, Spaced}
+use Rattle.text.proofs.Cuts.{follow-to, lines-sound, lines-complete}
 use Rattle.text.proofs.Orders.{spaced-fits, fits-spaced, spaced-stops, spaced-spaced, orders-sound, orders-complete}
 
 abbrev pub doc : ℕ → ℕ → ℕ → List (List Cut) → List ℕ → List Order → Document
@@ -160,7 +160,7 @@ document-sound text d q rest e =
               (b .is ∙ ap (λ z. lines-text 0 (d .cuts) ++ (filled (estimates-line z) (d .estimates) ++ orders-text (d .orders))) (sym (b .states)));
           well = b .well (range .0) (range .1) (h .start-short) (h .goal-short);
         }
-    go ns p bs false t h s e = never 3 5 0 d q rest e
+    go ns p bs false t h s e = no-got d q rest 3 5 0 (sym e)
 
 body-complete : (d : Document) (p q : ℕ) → WellFormed d → q ≡ p + length (lines-text 0 (d .cuts) ++ (filled (estimates-line (d .states)) (d .estimates) ++ orders-text (d .orders))) → body (d .states) (d .start) (d .goal) p (lines-text 0 (d .cuts) ++ (filled (estimates-line (d .states)) (d .estimates) ++ orders-text (d .orders))) ≡ got d q []
 body-complete d p q h e =
@@ -278,7 +278,7 @@ parsed-sound text d q rest e = go (leb (length text) 60000) refl e
   where
     go : (t : Bool) → leb (length text) 60000 ≡ t → elim t [ true ↦ document text | false ↦ fault 2 4 60000 ] ≡ got d q rest → Fitting text d
     go true t e = record { is = document-sound text d q rest e; fits = leb-true (length text) 60000 t }
-    go false t e = never 2 4 60000 d q rest e
+    go false t e = no-got d q rest 2 4 60000 (sym e)
 
 pub parsed-complete : (d : Document) → WellFormed d → length (written d) ≤ 60000 → parsed (written d) ≡ got d (length (written d)) []
 parsed-complete d h fits = parsed-short (written d) fits ∙ document-complete d h

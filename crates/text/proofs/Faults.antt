@@ -1,19 +1,18 @@
 -- The faults of layers 1 and 2 are real: nothing behind the mark at the place told can mend the text.
 use mathlib.Core.Path.{_≡_, refl, sym, _∙_, ap, subst}
 use mathlib.Core.List.{List, [], _∷_, _++_}
-use mathlib.Core.Bool.{Bool, true, false, cond}
+use mathlib.Core.Bool.{Bool, true, false}
 use mathlib.Core.Logic.{inl, inr}
 use Prim.Native.Nat.{ℕ, zero, suc, _+_, _-_, _≤_}
 use native.Mathlib.Nat.{le-refl}
 use native.Mathlib.Omega.{arith}
 use lib.ListN.{length, getD, take, drop}
-use Rattle.std.specs.Reads.{value}
 use Rattle.std.specs.shelf.Lists.{leading}
 use Rattle.std.specs.declared.option.Option.{Option}
 use Rattle.std.specs.declared.option.Option.the-variants.{Some, None}
-use Rattle.std.proofs.shelf.Lists.{length-append, append-nil, take-append-drop, take-at, drop-at, drop-all, drop-drop, append-cancel-left}
+use Rattle.std.proofs.shelf.Lists.{length-append, length-take, append-nil, take-append-drop, take-at, drop-at, drop-all, drop-drop, append-cancel-left}
 use Rattle.std.proofs.shelf.Tests.{cases-lt}
-use Rattle.text.specs.Marks.{Mark, sign, word, number, end, bad, isDigit, kind, markOf, next, width, badlyWritten}
+use Rattle.text.specs.Marks.{Mark, sign, word, number, end, bad, isDigit, kind, markOf, next, width}
 use Rattle.text.specs.declared.Kind.{Kind}
 use Rattle.text.specs.declared.Kind.the-variants.{Single, Letter, Digit, Outside}
 use Rattle.text.specs.Forms.{meets, Got, got, fault, andThen, follow, filled}
@@ -23,12 +22,11 @@ use Rattle.text.specs.Reading.{cut-of, order-of, verb-of, cuts-from, lines-fro
 use Rattle.text.specs.Verdicts.{Verdict, accepted, refused, Concludes}
 use Rattle.text.specs.Causes.{Starts, at-first, at-next}
 use Rattle.text.specs.Promises.{Written-once, Verdict-once, Faults-are-real}
-use Rattle.text.proofs.Marks.{begins-with, end-empty}
-use Rattle.text.proofs.Forms.{apart, went, before, behind, where-fault, Followed, follow-sound}
-use Rattle.text.proofs.Cuts.{never}
+use Rattle.text.proofs.Marks.{begins-with, end-empty, figures-as}
+use Rattle.text.proofs.Forms.{apart, went, before, behind, where-fault, no-got, Followed, follow-sound}
 use Rattle.text.proofs.Orders.{order-by, order-sound, orders-sound, orders-complete}
 use Rattle.text.proofs.Documents.{document-complete, doc, counts, by-count, after-head, parsed-short, parsed-long, Refusal, long, stopped, checked, refusal}
-use Rattle.text.proofs.Local.{Steps, no-step, a-step, Again, again-as, FaultAgain, Local, local-got, local-third, local-same, local-then, local-choice, local-unwanted, follow-local}
+use Rattle.text.proofs.Local.{Steps, no-step, a-step, again-as, FaultAgain, Local, local-got, local-third, local-same, local-then, local-by, local-choice, local-unwanted, follow-local}
 
 -- The cut too many, told at its bracket.
 one-too-many : ℕ → List ℕ → Got (List Cut)
@@ -41,7 +39,7 @@ local-too-many =
       gots =
           λ p bs a q rest e.
           let w = went (follow (space ∷ opening ∷ []) p bs) (λ ns q rest. fault 2 4 (q - 1)) a q rest e in
-          never 2 4 (w .place - 1) a q rest (w .second);
+          no-got a q rest 2 4 (w .place - 1) (sym (w .second));
       faults =
           λ p bs l c q e small.
           elim (where-fault (follow (space ∷ opening ∷ []) p bs) one-more l c q e) [
@@ -132,21 +130,7 @@ pick-local (Some v) = local-then (follow (an-order v)) (λ ns q rest. got (order
 pick-local None = local-unwanted
 
 order-local : Local order-from
-order-local =
-    record {
-      gots =
-          λ p bs o q rest e.
-          let u = pick-local (verb-of (next bs)) .gots p bs o q rest e in
-          record { over = u .over; is = carry p bs (u .over) rest q (λ z. got o q z) (u .is) };
-      faults =
-          λ p bs l c q e small.
-          let u = pick-local (verb-of (next bs)) .faults p bs l c q e small in
-          record { over = u .over; left = u .left; is = carry p bs (u .over) (u .left) q (λ z. fault l c q) (u .is) };
-    }
-  where
-    carry :
-        (p : ℕ) (bs x y : List ℕ) (q : ℕ) (out : List ℕ → Got Order) → Again (order-by (verb-of (next bs))) p bs x y q out → Again order-from p bs x y q out
-    carry p bs x y q out h = again-as order-from p bs x y q out h (λ z k. ap (λ v. order-by v p (x ++ z)) (ap verb-of (h .same z k)) ∙ h .again z k)
+order-local = local-by verb-of order-by pick-local
 
 -- The orders.
 at-end : Mark → Bool
@@ -156,14 +140,10 @@ not-at-end : (b : ℕ) (bs : List ℕ) → at-end (next (b ∷ bs)) ≡ false
 unfolding at-end
 not-at-end b bs = go (kind b)
   where
-    run : (t : Bool) (n : ℕ) → at-end (cond t (bad 2) (number n)) ≡ false
-    run true n = refl
-    run false n = refl
-
     go : (k : Kind) → at-end (markOf k b (b ∷ bs)) ≡ false
     go Single = refl
     go Letter = refl
-    go Digit = let ds = take (leading isDigit (b ∷ bs)) (b ∷ bs) in run (badlyWritten ds) (value 10 ds)
+    go Digit = figures-as at-end false (take (leading isDigit (b ∷ bs)) (b ∷ bs)) (λ n. refl) refl
     go Outside = refl
 
 one-order : (ℕ → List ℕ → Got (List Order)) → ℕ → List ℕ → Got (List Order)
@@ -345,11 +325,6 @@ faults-are-real text other l c p says small front mark d h = by (refusal text l 
     short : length other ≤ 60000
     short = elim (cases-lt 60000 (length other)) [ inl n ↦ not-accepted 2 4 60000 d (subst (λ g. Concludes g (accepted d)) (parsed-long other n) h) | inr n ↦ n ]
 
-    shorter : (n : ℕ) (xs : List ℕ) → length (take n xs) ≤ length xs
-    shorter zero xs = omega arith
-    shorter (suc n) [] = omega arith
-    shorter (suc n) (x ∷ xs) = omega (arith, shorter n xs)
-
     by : Refusal text l c p → ⊥
     by (checked x k a w) = omega arith
     by (stopped k e) =
@@ -358,7 +333,7 @@ faults-are-real text other l c p says small front mark d h = by (refusal text l 
     by (long n a b m) =
         let few : length other ≤ p = omega (arith, short, m) in
         let none : drop p text ≡ [] = end-empty (drop p text) (sym mark ∙ ap next (drop-all p other few)) in
-        omega (arith, ap length (take-append-drop p text), length-append (take p text) (drop p text), ap length none, ap length front, n, m, shorter p other)
+        omega (arith, ap length (take-append-drop p text), length-append (take p text) (drop p text), ap length none, ap length front, n, m, length-take p other)
 
 pub written-once : Written-once
 written-once d e h k same =

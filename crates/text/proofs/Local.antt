@@ -6,91 +6,63 @@ use Prim.Native.Nat.{ℕ, _+_, _≤_, _<_}
 use native.Mathlib.Nat.{add-zero}
 use native.Mathlib.Omega.{arith}
 use native.Mathlib.Numerals.{one-add}
-use lib.ListN.{length, take, drop}
+use lib.ListN.{length, getD, take, drop}
 use lib.Dec.{eqb}
 use Rattle.std.specs.shelf.Lists.{leading}
 use Rattle.std.proofs.shelf.Lists.{append-assoc, length-append, take-append-drop, length-take-le, drop-at}
 use Rattle.std.proofs.shelf.Sums.{leading-le-length}
-use Rattle.text.specs.Marks.{Mark, sign, word, number, end, bad, isLetter, isDigit, kind, markOf, widthOf, next, width, figures, badlyWritten}
+use Rattle.text.specs.Marks.{Mark, sign, word, number, end, bad, isLetter, isDigit, kind, markOf, widthOf, next, width, figures}
 use Rattle.text.specs.declared.Kind.{Kind}
 use Rattle.text.specs.declared.Kind.the-variants.{Single, Letter, Digit, Outside}
 use Rattle.text.specs.Forms.{Form, meets, keeps, Got, got, fault, andThen, unwanted, follow}
-use Rattle.text.proofs.Runs.{Stops, front-passes, leading-some, kind-letter, kind-digit, letter-kind, digit-kind}
-use Rattle.text.proofs.Marks.{end-empty, shows-word, shows-figures}
+use Rattle.text.proofs.Runs.{Every, Stops, stops-first, first-stops, front-passes, leading-some, kind-letter, kind-digit, letter-kind, digit-kind}
+use Rattle.text.proofs.Marks.{Shows, end-empty, figures-as, shows-word, shows-figures}
 use Rattle.text.proofs.Forms.{apart, went, goes, never-got, unwanted-place, before, behind, where-fault}
 
 -- The mark in hand tells whether a letter, or a digit, stands first.
-firstly : (ℕ → Bool) → List ℕ → Bool
-firstly p [] = false
-firstly p (x ∷ xs) = p x
-
 is-word : Mark → Bool
 is-word m = elim m [ sign b ↦ false | word w ↦ true | number n ↦ false | end ↦ false | bad c ↦ false ]
 
 is-figure : Mark → Bool
 is-figure m = elim m [ sign b ↦ false | word w ↦ false | number n ↦ true | end ↦ false | bad c ↦ eqb c 2 ]
 
-figures-word : (ds : List ℕ) → is-word (figures ds) ≡ false
+-- What passes only bytes of one kind passes none of another.
+not-kind : (p : ℕ → Bool) (own k : Kind) → ((b : ℕ) → p b ≡ true → kind b ≡ own) → (b : ℕ) → kind b ≡ k → (k ≡ own → ⊥) → p b ≡ false
+not-kind p own k only b e h = go (p b) refl
+  where
+    go : (t : Bool) → p b ≡ t → t ≡ false
+    go true l = absurd (h (sym e ∙ only b l))
+    go false l = refl
+
+word-first : (bs : List ℕ) → is-word (next bs) ≡ isLetter (getD bs 0 0)
 unfolding is-word
-figures-word ds = go (badlyWritten ds) (number _) refl
-  where
-    go : (t : Bool) (m : Mark) → is-word m ≡ false → is-word (cond t (bad 2) m) ≡ false
-    go true m e = refl
-    go false m e = e
-
-figures-figure : (ds : List ℕ) → is-figure (figures ds) ≡ true
-unfolding is-figure
-figures-figure ds = go (badlyWritten ds) (number _) refl
-  where
-    go : (t : Bool) (m : Mark) → is-figure m ≡ true → is-figure (cond t (bad 2) m) ≡ true
-    go true m e = refl
-    go false m e = e
-
-not-letter : (b : ℕ) (k : Kind) → kind b ≡ k → (k ≡ Letter → ⊥) → isLetter b ≡ false
-not-letter b k e h = go (isLetter b) refl
-  where
-    go : (t : Bool) → isLetter b ≡ t → t ≡ false
-    go true l = absurd (h (sym e ∙ kind-letter b l))
-    go false l = refl
-
-not-digit : (b : ℕ) (k : Kind) → kind b ≡ k → (k ≡ Digit → ⊥) → isDigit b ≡ false
-not-digit b k e h = go (isDigit b) refl
-  where
-    go : (t : Bool) → isDigit b ≡ t → t ≡ false
-    go true l = absurd (h (sym e ∙ kind-digit b l))
-    go false l = refl
-
-word-first : (bs : List ℕ) → is-word (next bs) ≡ firstly isLetter bs
-unfolding is-word firstly
 word-first [] = refl
 word-first (b ∷ bs) = go (kind b) refl
   where
-    go : (k : Kind) → kind b ≡ k → is-word (markOf k b (b ∷ bs)) ≡ isLetter b
-    go Single e = sym (not-letter b Single e (λ z. let w : _≡_ {A = ℕ} 0 1 = cc in apart w))
-    go Letter e = sym (letter-kind b e)
-    go Digit e = figures-word (take (leading isDigit (b ∷ bs)) (b ∷ bs)) ∙ sym (not-letter b Digit e (λ z. let w : _≡_ {A = ℕ} 0 1 = cc in apart w))
-    go Outside e = sym (not-letter b Outside e (λ z. let w : _≡_ {A = ℕ} 0 1 = cc in apart w))
+    other : (k : Kind) → kind b ≡ k → (k ≡ Letter → ⊥) → false ≡ isLetter b
+    other k e h = sym (not-kind isLetter Letter k kind-letter b e h)
 
-figure-first : (bs : List ℕ) → is-figure (next bs) ≡ firstly isDigit bs
-unfolding is-figure firstly
+    go : (k : Kind) → kind b ≡ k → is-word (markOf k b (b ∷ bs)) ≡ isLetter b
+    go Single e = other Single e (λ z. let w : _≡_ {A = ℕ} 0 1 = cc in apart w)
+    go Letter e = sym (letter-kind b e)
+    go Digit e =
+        figures-as is-word false (take (leading isDigit (b ∷ bs)) (b ∷ bs)) (λ n. refl) refl
+        ∙ other Digit e (λ z. let w : _≡_ {A = ℕ} 0 1 = cc in apart w)
+    go Outside e = other Outside e (λ z. let w : _≡_ {A = ℕ} 0 1 = cc in apart w)
+
+figure-first : (bs : List ℕ) → is-figure (next bs) ≡ isDigit (getD bs 0 0)
+unfolding is-figure
 figure-first [] = refl
 figure-first (b ∷ bs) = go (kind b) refl
   where
+    other : (k : Kind) → kind b ≡ k → (k ≡ Digit → ⊥) → false ≡ isDigit b
+    other k e h = sym (not-kind isDigit Digit k kind-digit b e h)
+
     go : (k : Kind) → kind b ≡ k → is-figure (markOf k b (b ∷ bs)) ≡ isDigit b
-    go Single e = sym (not-digit b Single e (λ z. let w : _≡_ {A = ℕ} 0 1 = cc in apart w))
-    go Letter e = sym (not-digit b Letter e (λ z. let w : _≡_ {A = ℕ} 0 1 = cc in apart w))
-    go Digit e = figures-figure (take (leading isDigit (b ∷ bs)) (b ∷ bs)) ∙ sym (digit-kind b e)
-    go Outside e = sym (not-digit b Outside e (λ z. let w : _≡_ {A = ℕ} 0 1 = cc in apart w))
-
-to-stops : (p : ℕ → Bool) (bs : List ℕ) → firstly p bs ≡ false → Stops p bs
-unfolding firstly
-to-stops p [] h = tt
-to-stops p (x ∷ xs) h = h
-
-from-stops : (p : ℕ → Bool) (bs : List ℕ) → Stops p bs → firstly p bs ≡ false
-unfolding firstly
-from-stops p [] h = refl
-from-stops p (x ∷ xs) h = h
+    go Single e = other Single e (λ z. let w : _≡_ {A = ℕ} 0 1 = cc in apart w)
+    go Letter e = other Letter e (λ z. let w : _≡_ {A = ℕ} 0 1 = cc in apart w)
+    go Digit e = figures-as is-figure true (take (leading isDigit (b ∷ bs)) (b ∷ bs)) (λ n. refl) refl ∙ sym (digit-kind b e)
+    go Outside e = other Outside e (λ z. let w : _≡_ {A = ℕ} 0 1 = cc in apart w)
 
 -- Behind the longest run stands something else.
 pub leading-stops : (p : ℕ → Bool) (bs : List ℕ) → Stops p (drop (leading p bs) bs)
@@ -100,11 +72,6 @@ leading-stops p (x ∷ xs) = go (p x) refl (leading-stops p xs)
     go : (t : Bool) → p x ≡ t → Stops p (drop (leading p xs) xs) → Stops p (drop (cond t (1 + leading p xs) 0) (x ∷ xs))
     go true e h = rw one-add h
     go false e h = e
-
--- A mark with the same mark behind it stays itself.
-record Stays (bs z : List ℕ) : Type 0 where
-  is : next (take (width bs) bs ++ z) ≡ next bs
-  wide : width (take (width bs) bs ++ z) ≡ width bs
 
 width-fits : (bs : List ℕ) → width bs ≤ length bs
 width-fits [] = omega arith
@@ -116,30 +83,38 @@ width-fits (b ∷ bs) = go (kind b)
     go Digit = leading-le-length isDigit (b ∷ bs)
     go Outside = omega arith
 
-stays : (bs z : List ℕ) → next z ≡ next (drop (width bs) bs) → Stays bs z
+-- The bytes x with z behind them have the mark m in hand, which takes n bytes.
+record Stays (x z : List ℕ) (m : Mark) (n : ℕ) : Type 0 where
+  is : next (x ++ z) ≡ m
+  wide : width (x ++ z) ≡ n
+
+-- A run stays itself where what stands behind it does not go on with it.
+run-stays :
+    (p : ℕ → Bool) (is : Mark → Bool) (m : List ℕ → Mark)
+    → p 0 ≡ false → ((bs : List ℕ) → is (next bs) ≡ p (getD bs 0 0))
+    → ((w rest : List ℕ) → 0 < length w → Every p w → Stops p rest → Shows (m w) w rest)
+    → (b : ℕ) (bs z : List ℕ) → p b ≡ true → next z ≡ next (drop (leading p (b ∷ bs)) (b ∷ bs))
+    → Stays (take (leading p (b ∷ bs)) (b ∷ bs)) z (m (take (leading p (b ∷ bs)) (b ∷ bs))) (leading p (b ∷ bs))
+run-stays p is m none tells shows b bs z e h =
+    let n = leading p (b ∷ bs) in
+    let long = length-take-le n (b ∷ bs) (leading-le-length p (b ∷ bs)) in
+    let first : p (getD z 0 0) ≡ false =
+    sym (tells z) ∙ ap is h ∙ tells (drop n (b ∷ bs)) ∙ stops-first p none (drop n (b ∷ bs)) (leading-stops p (b ∷ bs))
+    in
+    let t = shows (take n (b ∷ bs)) z (omega (arith, long, leading-some p b bs e)) (front-passes p (b ∷ bs)) (first-stops p z first) in
+    record { is = t .is; wide = t .wide ∙ long }
+
+-- A mark with the same mark behind it stays itself.
+stays : (bs z : List ℕ) → next z ≡ next (drop (width bs) bs) → Stays (take (width bs) bs) z (next bs) (width bs)
 stays [] z h = let e = end-empty z h in record { is = h; wide = ap width e }
-stays (b ∷ bs) z h = let t = go (kind b) refl h in record { is = t .is; wide = t .wide }
+stays (b ∷ bs) z h = go (kind b) refl h
   where
-    go : (k : Kind) → kind b ≡ k → next z ≡ next (drop (widthOf k (b ∷ bs)) (b ∷ bs)) → record { is : next (take (widthOf k (b ∷ bs)) (b ∷ bs) ++ z) ≡ markOf k b (b ∷ bs); wide : width (take (widthOf k (b ∷ bs)) (b ∷ bs) ++ z) ≡ widthOf k (b ∷ bs) }
+    go :
+        (k : Kind) → kind b ≡ k → next z ≡ next (drop (widthOf k (b ∷ bs)) (b ∷ bs))
+        → Stays (take (widthOf k (b ∷ bs)) (b ∷ bs)) z (markOf k b (b ∷ bs)) (widthOf k (b ∷ bs))
     go Single e h = record { is = rw e refl; wide = rw e refl }
-    go Letter e h =
-        let n = leading isLetter (b ∷ bs) in
-        let long = length-take-le n (b ∷ bs) (leading-le-length isLetter (b ∷ bs)) in
-        let some : 0 < n = leading-some isLetter b bs (letter-kind b e) in
-        let first : firstly isLetter z ≡ false =
-        sym (word-first z) ∙ ap is-word h ∙ word-first (drop n (b ∷ bs)) ∙ from-stops isLetter (drop n (b ∷ bs)) (leading-stops isLetter (b ∷ bs))
-        in
-        let t = shows-word (take n (b ∷ bs)) z (omega (arith, long)) (front-passes isLetter (b ∷ bs)) (to-stops isLetter z first) in
-        record { is = t .is; wide = t .wide ∙ long }
-    go Digit e h =
-        let n = leading isDigit (b ∷ bs) in
-        let long = length-take-le n (b ∷ bs) (leading-le-length isDigit (b ∷ bs)) in
-        let some : 0 < n = leading-some isDigit b bs (digit-kind b e) in
-        let first : firstly isDigit z ≡ false =
-        sym (figure-first z) ∙ ap is-figure h ∙ figure-first (drop n (b ∷ bs)) ∙ from-stops isDigit (drop n (b ∷ bs)) (leading-stops isDigit (b ∷ bs))
-        in
-        let t = shows-figures (take n (b ∷ bs)) z (omega (arith, long)) (front-passes isDigit (b ∷ bs)) (to-stops isDigit z first) in
-        record { is = t .is; wide = t .wide ∙ long }
+    go Letter e h = run-stays isLetter is-word word refl word-first shows-word b bs z (letter-kind b e) h
+    go Digit e h = run-stays isDigit is-figure figures refl figure-first shows-figures b bs z (digit-kind b e) h
     go Outside e h = record { is = rw e refl; wide = rw e refl }
 
 -- From place p with bs left, mark by mark, to place q with rest left.
@@ -284,44 +259,37 @@ local-then {A} {B} r k f g =
           ];
     }
 
--- One or the other, by the mark in hand.
+-- A choice by the mark in hand.
+pub local-by : {X A : Type 0} (t : Mark → X) (r : X → ℕ → List ℕ → Got A) → ((x : X) → Local (r x)) → Local (λ p bs. r (t (next bs)) p bs)
+local-by {X} {A} t r f =
+    record {
+      gots =
+          λ p bs a q rest e.
+          let u = f (t (next bs)) .gots p bs a q rest e in
+          record { over = u .over; is = carry p bs (u .over) rest q (λ z. got a q z) (u .is) };
+      faults =
+          λ p bs l c q e small.
+          let u = f (t (next bs)) .faults p bs l c q e small in
+          record { over = u .over; left = u .left; is = carry p bs (u .over) (u .left) q (λ z. fault l c q) (u .is) };
+    }
+  where
+    carry :
+        (p : ℕ) (bs x y : List ℕ) (q : ℕ) (out : List ℕ → Got A)
+        → Again (r (t (next bs))) p bs x y q out → Again (λ p bs. r (t (next bs)) p bs) p bs x y q out
+    carry p bs x y q out h =
+        again-as (λ p bs. r (t (next bs)) p bs) p bs x y q out h (λ z k. ap (λ v. r v p (x ++ z)) (ap t (h .same z k)) ∙ h .again z k)
+
 pub local-choice :
     {A : Type 0} (t : Mark → Bool) (r s : ℕ → List ℕ → Got A)
     → Local r → Local s → Local (λ p bs. elim (t (next bs)) [ true ↦ r p bs | false ↦ s p bs ])
-local-choice {A} t r s f g =
-    record {
-      gots = λ p bs b q rest e. go p bs b q rest (t (next bs)) refl e;
-      faults = λ p bs l c q e small. stop p bs l c q small (t (next bs)) refl e;
-    }
+local-choice {A} t r s f g = local-by t pick each
   where
     pick : Bool → ℕ → List ℕ → Got A
     pick b p bs = elim b [ true ↦ r p bs | false ↦ s p bs ]
 
-    carry :
-        (p : ℕ) (bs x y : List ℕ) (q : ℕ) (out : List ℕ → Got A) (b : Bool)
-        → t (next bs) ≡ b → Again (pick b) p bs x y q out → Again (λ p bs. pick (t (next bs)) p bs) p bs x y q out
-    carry p bs x y q out b e h =
-        again-as (λ p bs. pick (t (next bs)) p bs) p bs x y q out h (λ z k. ap (λ c. pick c p (x ++ z)) (ap t (h .same z k) ∙ e) ∙ h .again z k)
-
-    go :
-        (p : ℕ) (bs : List ℕ) (a : A) (q : ℕ) (rest : List ℕ) (b : Bool)
-        → t (next bs) ≡ b → pick b p bs ≡ got a q rest → GotAgain (λ p bs. pick (t (next bs)) p bs) p bs a q rest
-    go p bs a q rest true e h =
-        let u = f .gots p bs a q rest h in
-        record { over = u .over; is = carry p bs (u .over) rest q (λ z. got a q z) true e (u .is) }
-    go p bs a q rest false e h =
-        let u = g .gots p bs a q rest h in
-        record { over = u .over; is = carry p bs (u .over) rest q (λ z. got a q z) false e (u .is) }
-
-    stop :
-        (p : ℕ) (bs : List ℕ) (l c q : ℕ) → l ≤ 2 → (b : Bool)
-        → t (next bs) ≡ b → pick b p bs ≡ fault l c q → FaultAgain (λ p bs. pick (t (next bs)) p bs) p bs l c q
-    stop p bs l c q small true e h =
-        let u = f .faults p bs l c q h small in
-        record { over = u .over; left = u .left; is = carry p bs (u .over) (u .left) q (λ z. fault l c q) true e (u .is) }
-    stop p bs l c q small false e h =
-        let u = g .faults p bs l c q h small in
-        record { over = u .over; left = u .left; is = carry p bs (u .over) (u .left) q (λ z. fault l c q) false e (u .is) }
+    each : (b : Bool) → Local (pick b)
+    each true = f
+    each false = g
 
 -- A mark that is not wanted.
 pub local-unwanted : {A : Type 0} → Local {A = A} (λ p bs. unwanted (next bs) p)

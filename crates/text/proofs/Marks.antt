@@ -83,14 +83,27 @@ pub record Shows (m : Mark) (x rest : List ℕ) : Type 0 where
 pub shows-sign : (b : ℕ) (rest : List ℕ) → isSingle b ≡ true → Shows (sign b) (b ∷ []) rest
 shows-sign b rest h = record { is = rw (kind-single b h) refl; wide = rw (kind-single b h) refl }
 
-pub shows-word : (w rest : List ℕ) → 0 < length w → Every isLetter w → Stops isLetter rest → Shows (word w) w rest
-shows-word [] rest some h s = absurd (omega arith)
-shows-word (b ∷ w) rest some h s =
-    let n : leading isLetter (b ∷ w ++ rest) ≡ length (b ∷ w) = leading-run isLetter (b ∷ w) rest h s in
+-- A run of bytes of one kind stands in hand whole: a word, or a run of digits, well written or not.
+shows-run :
+    (p : ℕ → Bool) (k : Kind) (m : List ℕ → Mark)
+    → ((b : ℕ) → p b ≡ true → kind b ≡ k)
+    → ((b : ℕ) (bs : List ℕ) → markOf k b bs ≡ m (take (leading p bs) bs)) → ((bs : List ℕ) → widthOf k bs ≡ leading p bs)
+    → (w rest : List ℕ) → 0 < length w → Every p w → Stops p rest → Shows (m w) w rest
+shows-run p k m tells mark wide [] rest some h s = absurd (omega arith)
+shows-run p k m tells mark wide (b ∷ w) rest some h s =
+    let n : leading p (b ∷ w ++ rest) ≡ length (b ∷ w) = leading-run p (b ∷ w) rest h s in
     record {
-      is = rw (kind-letter b (h .0)) (ap (λ n. word (take n (b ∷ w ++ rest))) n ∙ ap word (take-at (b ∷ w) rest (length (b ∷ w)) refl));
-      wide = rw (kind-letter b (h .0)) n;
+      is =
+          rw (tells b (h .0))
+          (mark b (b ∷ w ++ rest) ∙ ap (λ n. m (take n (b ∷ w ++ rest))) n ∙ ap m (take-at (b ∷ w) rest (length (b ∷ w)) refl));
+      wide = rw (tells b (h .0)) (wide (b ∷ w ++ rest) ∙ n);
     }
+
+pub shows-word : (w rest : List ℕ) → 0 < length w → Every isLetter w → Stops isLetter rest → Shows (word w) w rest
+shows-word = shows-run isLetter Letter word kind-letter (λ b bs. refl) (λ bs. refl)
+
+pub shows-figures : (ds rest : List ℕ) → 0 < length ds → Every isDigit ds → Stops isDigit rest → Shows (figures ds) ds rest
+shows-figures = shows-run isDigit Digit figures kind-digit (λ b bs. refl) (λ bs. refl)
 
 well-figures : (n : ℕ) → Short n → figures (decimal n) ≡ number n
 well-figures n h =
@@ -100,17 +113,13 @@ well-figures n h =
     in
     cond-false (badlyWritten (decimal n)) (bad 2) (number (value 10 (decimal n))) fine ∙ ap number (value-decimal own n (omega arith))
 
--- A run of digits stands in hand whole, well written or not.
-pub shows-figures : (ds rest : List ℕ) → 0 < length ds → Every isDigit ds → Stops isDigit rest → Shows (figures ds) ds rest
-shows-figures [] rest some d s = absurd (omega arith)
-shows-figures (b ∷ ds) rest some d s =
-    let l : leading isDigit (b ∷ ds ++ rest) ≡ length (b ∷ ds) = leading-run isDigit (b ∷ ds) rest d s in
-    record {
-      is =
-          rw (kind-digit b (d .0))
-          (ap (λ n. figures (take n (b ∷ ds ++ rest))) l ∙ ap figures (take-at (b ∷ ds) rest (length (b ∷ ds)) refl));
-      wide = rw (kind-digit b (d .0)) l;
-    }
+-- What a test says of numbers and of what is badly written, it says of a run of digits.
+pub figures-as : (f : Mark → Bool) (v : Bool) (ds : List ℕ) → ((n : ℕ) → f (number n) ≡ v) → f (bad 2) ≡ v → f (figures ds) ≡ v
+figures-as f v ds h k = go (badlyWritten ds)
+  where
+    go : (t : Bool) → f (cond t (bad 2) (number (value 10 ds))) ≡ v
+    go true = k
+    go false = h (value 10 ds)
 
 pub shows-number : (n : ℕ) (rest : List ℕ) → Short n → Stops isDigit rest → Shows (number n) (decimal n) rest
 shows-number n rest h s =

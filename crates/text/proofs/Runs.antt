@@ -5,7 +5,7 @@ use mathlib.Core.Bool.{Bool, true, false, cond}
 use Prim.Native.Nat.{ℕ, _+_, _<_}
 use native.Mathlib.Omega.{arith}
 use native.Mathlib.Numerals.{one-add}
-use lib.ListN.{length, take}
+use lib.ListN.{length, getD, take}
 use lib.Dec.{leb}
 use Rattle.std.specs.shelf.Lists.{All, leading}
 use Rattle.std.specs.Reads.{value}
@@ -23,6 +23,15 @@ Every p xs = All (λ x. p x ≡ true) xs
 abbrev pub Stops : (ℕ → Bool) → List ℕ → Type 0
 Stops p [] = Unit {0}
 Stops p (x ∷ xs) = p x ≡ false
+
+-- Where there is no first byte, `getD` gives 0.
+pub stops-first : (p : ℕ → Bool) → p 0 ≡ false → (bs : List ℕ) → Stops p bs → p (getD bs 0 0) ≡ false
+stops-first p h [] s = h
+stops-first p h (x ∷ xs) s = s
+
+pub first-stops : (p : ℕ → Bool) (bs : List ℕ) → p (getD bs 0 0) ≡ false → Stops p bs
+first-stops p [] h = tt
+first-stops p (x ∷ xs) h = h
 
 -- The longest front passes.
 pub front-passes : (p : ℕ → Bool) (xs : List ℕ) → Every p (take (leading p xs) xs)

@@ -29,7 +29,7 @@ firsts-rise e (cs ∷ css) zero h = omega (arith, firsts-first (e + length cs) c
 firsts-rise e (cs ∷ css) (suc u) h = firsts-rise (e + length cs) css u (omega arith)
 
 -- A row with one number for each cut has as many as there are cuts.
-row-many : (f : Cut → ℕ) (css : List (List Cut)) → length (joined (map f) css) ≡ total css
+pub row-many : (f : Cut → ℕ) (css : List (List Cut)) → length (joined (map f) css) ≡ total css
 row-many f [] = refl
 row-many f (cs ∷ css) = omega (arith, length-append (map f cs) (joined (map f) css), length-map cs f, row-many f css)
 

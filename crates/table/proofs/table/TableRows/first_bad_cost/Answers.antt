@@ -12,7 +12,7 @@ returns-then-not-is-good-cost c =
     first-at _ _ (c .loop-i .inv) (cost (c .loop-i .i) (omega arith) (not-from-decides _ (c .is-good-cost .ensures) (c .if-not-is-good-cost .taken)))
 
 pub loop-i-again : need.loop-i-again
-loop-i-again c = below-more _ _ (c .loop-i .inv) (λ x. bad-eight _ _ _ x refl .1 (c .if-not-is-good-cost .ensures tt .0 refl))
+loop-i-again c = below-more _ _ (c .loop-i .inv) (λ x. bad-eight _ _ x .1 (c .if-not-is-good-cost .ensures tt .0 refl))
 
 pub returns : need.returns
-returns c = λ e x. c .loop-i .inv e (omega (arith, bad-eight _ _ _ x refl .0)) x
+returns c = λ e x. c .loop-i .inv e (omega (arith, bad-eight _ _ x .0)) x

@@ -12,7 +12,7 @@ returns-then-not-is-good-estimate c =
     first-at _ _ (c .loop-s .inv) (estimate (c .loop-s .s) (omega arith) (not-from-decides _ (c .is-good-estimate .ensures) (c .if-not-is-good-estimate .taken)))
 
 pub loop-s-again : need.loop-s-again
-loop-s-again c = below-more _ _ (c .loop-s .inv) (λ x. bad-nine _ _ _ x refl .1 (c .if-not-is-good-estimate .ensures tt .0 refl))
+loop-s-again c = below-more _ _ (c .loop-s .inv) (λ x. bad-nine _ _ x .1 (c .if-not-is-good-estimate .ensures tt .0 refl))
 
 pub returns : need.returns
-returns c = λ e x. c .loop-s .inv e (omega (arith, bad-nine _ _ _ x refl .0)) x
+returns c = λ e x. c .loop-s .inv e (omega (arith, bad-nine _ _ x .0)) x

@@ -1,5 +1,4 @@
 use borrow.Author.Count.{below-more}
-use mathlib.Core.Path.{refl}
 use native.Mathlib.Omega.{arith}
 use Rattle.table.specs.Table.{GoodSlope, slope}
 use Rattle.table.specs.Checks.{rowsIn}
@@ -12,7 +11,7 @@ returns-in-Some c =
     let r = rowsIn (c .args .self .now) in
     let f = c .in-Some .ensures tt in (
       slope (c .loop-u .u) (c .in-Some .e) (f .0 .held) (f .0 .fails),
-      λ k x. let b = bad-ten r 10 k x refl in first-of-all r (c .pre .shaped) (GoodSlope r) (c .loop-u .u) (c .in-Some .e) (c .loop-u .inv) f (b .0) k (b .1),
+      λ k x. let b = bad-ten r k x in first-of-all r (c .pre .shaped) (GoodSlope r) (c .loop-u .u) (c .in-Some .e) (c .loop-u .inv) f (b .0) k (b .1),
     )
 
 pub loop-u-again : need.loop-u-again
@@ -21,4 +20,4 @@ loop-u-again c = below-more _ _ (c .loop-u .inv) (λ x. c .in-rest .ensures tt (
 pub returns : need.returns
 returns c =
     let r = rowsIn (c .args .self .now) in
-    λ k x. let b = bad-ten r 10 k x refl in c .loop-u .inv (b .0) (omega (arith, b .1 .held .state)) (k, b .1)
+    λ k x. let b = bad-ten r k x in c .loop-u .inv (b .0) (omega (arith, b .1 .held .state)) (k, b .1)

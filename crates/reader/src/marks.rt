@@ -6,6 +6,7 @@ ghost use lib.ListN.{length, drop};
 ghost use Rattle.std.specs.shelf.Lists.{leading};
 ghost use Rattle.std.specs.Reads.{value};
 ghost use Rattle.text.specs.declared.Kind.the-variants.{Single};
+ghost use Rattle.text.specs.declared.Layer.the-variants.{Marks};
 ghost use Rattle.text.specs.Marks.{kind, next, width, badlyWritten};
 ghost use Rattle.reader.specs.Meaning.{byteOf, ofKind, Taken, Figures, behind};
 use crate::kinds::kind_of;
@@ -106,6 +107,17 @@ pub(crate) fn value_of(digits: &[u8]) -> u32
     n
 }
 
+// What stands at a place is no mark.
+fn no_mark(cause: Refusal, place: usize) -> Fault
+    ensures { λ r. ⌜ r ≡ record { layer = Marks; cause = cause; place = place } ⌝ }
+{
+    Fault {
+        layer: Layer::Marks,
+        cause,
+        place,
+    }
+}
+
 impl<'a> Reader<'a> {
     // A reader at the beginning of a text.
     pub fn new(text: &'a [u8]) -> Self
@@ -145,11 +157,7 @@ impl<'a> Reader<'a> {
                 let end = run_end(self.text, place, Kind::Digit);
                 let digits = &self.text[place..end];
                 if badly_written(digits) {
-                    return Err(Fault {
-                        layer: Layer::Marks,
-                        cause: Refusal::NumberBadlyWritten,
-                        place,
-                    });
+                    return Err(no_mark(Refusal::NumberBadlyWritten, place));
                 }
                 Ok(Mark {
                     token: Token::Number(digits),
@@ -157,13 +165,10 @@ impl<'a> Reader<'a> {
                     end,
                 })
             }
-            Kind::Outside => Err(Fault {
-                layer: Layer::Marks,
-                cause: Refusal::ByteOutside,
-                place,
-            }),
+            Kind::Outside => Err(no_mark(Refusal::ByteOutside, place)),
         }
     }
+
     // The next mark, and the reader moves behind it. Where there is none the reader stays.
     pub fn next_mark(&mut self) -> Result<Mark<'a>, Fault>
         ensures mark { λ r. ⌜ Taken (now (now (self .entry) .text)) (now (self .entry) .at) r ⌝ }

@@ -11,12 +11,12 @@ ghost use Rattle.table.specs.Table.{Shape};
 ghost use Rattle.table.specs.Checks.{rowsIn};
 ghost use Rattle.reader.specs.Documents.{rowsOf};
 ghost use Rattle.report.specs.Printed.{fault-line, count-line, cut-line, spaced, number-items, state-cuts, all-cuts, estimates-line, listing, Complains, Prints};
-use table::TableRows;
 use reader::Document;
 use reader::ReadError;
 use reader::read;
 use std::alloc::AllocError;
 use std::alloc::Global;
+use table::TableRows;
 use text::Fault;
 
 // `fault`, then layer, cause and place.

@@ -10,6 +10,7 @@ use Rattle.std.proofs.shelf.Tests.{cond-false}
 use Rattle.text.specs.Marks.{isLetter, isDigit, sign, word, number, bad, figures, badlyWritten}
 use Rattle.text.proofs.Runs.{Every, front-passes}
 use Rattle.reader.proofs.Numbers.{well-written}
+use Rattle.reader.specs.Meaning.{Unmarked}
 use Rattle.reader.proofs.InHand.{in-hand, at-end}
 use Rattle.reader.proofs.marks.Reader.peek.Needs as need
 
@@ -50,5 +51,7 @@ returns-else-badly-written c =
 
 pub returns-in-Outside : need.returns-in-Outside
 returns-in-Outside c =
-    let h = in-hand (c .args .self .now .text .now) (c .args .self .now .at) Outside (omega arith) (sym (c .in-Outside .ensures tt)) in
-    record { is = sym (h .is); layer = refl; here = refl }
+    let xs = c .args .self .now .text .now in
+    let at = c .args .self .now .at in
+    let h = in-hand xs at Outside (omega arith) (sym (c .in-Outside .ensures tt)) in
+    subst (Unmarked xs at) (sym (c .no-mark-in-Outside .ensures)) (record { is = sym (h .is); layer = refl; here = refl })

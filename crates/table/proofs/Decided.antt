@@ -13,10 +13,10 @@ use Rattle.table.specs.Checks.{First, Lapse}
 use Rattle.table.proofs.Causes.{From, bad-seven, bad-eight, bad-nine, bad-ten, from-more, from-seven, worst-first, worst-shape, worst-ends, passes-all}
 use Rattle.table.proofs.Firsts.{Clear, first-at, entry-within}
 
-abbrev Decided : Type 0 → Type 0
+abbrev pub Decided : Type 0 → Type 0
 Decided P = P ⊎ (P → ⊥)
 
-d-le : (a b : ℕ) → Decided (a ≤ b)
+pub d-le : (a b : ℕ) → Decided (a ≤ b)
 d-le a b = elim (cases-lt b a) [ inl h ↦ inr (λ k. omega arith) | inr h ↦ inl h ]
 
 d-not : {P : Type 0} → Decided P → Decided (P → ⊥)
@@ -28,7 +28,7 @@ d-imp (inl p) (inl q) = inl (λ _. q)
 d-imp (inl p) (inr g) = inr (λ f. g (f p))
 d-imp (inr f) d = inl (λ p. absurd (f p))
 
-d-and : {P Q : Type 0} → Decided P → Decided Q → Decided (P × Q)
+pub d-and : {P Q : Type 0} → Decided P → Decided Q → Decided (P × Q)
 d-and (inl p) (inl q) = inl (p, q)
 d-and (inl p) (inr g) = inr (λ h. g (h .1))
 d-and (inr f) d = inr (λ h. f (h .0))
@@ -70,7 +70,7 @@ d-every P d n =
     ]
 
 module _ (r : Rows) where
-  d-shape : Decided (Shape r)
+  pub d-shape : Decided (Shape r)
   d-shape =
       d-as
       (λ h.
@@ -93,7 +93,7 @@ module _ (r : Rows) where
       (d-and (cases-eq (getD (r .firsts) (states r) 0) (length (r .targets)))
       (d-and (cases-eq (length (r .targets)) (length (r .costs))) (d-le (length (r .targets)) 8192))))))))
 
-  d-ends : Decided (Ends r)
+  pub d-ends : Decided (Ends r)
   d-ends =
       d-as (λ h. record { start-in = h .0; goal-in = h .1 .0; apart = h .1 .1 }) (λ s. (s .start-in, (s .goal-in, s .apart)))
       (d-and (d-le (suc (r .start)) (states r)) (d-and (d-le (suc (r .goal)) (states r)) (d-not (cases-eq (r .start) (r .goal)))))
@@ -103,19 +103,19 @@ module _ (r : Rows) where
       d-as (λ h. record { state = h .0; after = h .1 .0; before = h .1 .1 }) (λ s. (s .state, (s .after, s .before)))
       (d-and (d-le (suc u) (states r)) (d-and (d-le (getD (r .firsts) u 0) e) (d-le (suc e) (getD (r .firsts) (u + 1) 0))))
 
-  d-target : (u e : ℕ) → Decided (GoodTarget r u e)
+  pub d-target : (u e : ℕ) → Decided (GoodTarget r u e)
   d-target u e =
       d-as (λ h. record { inside = h .0; other = h .1 .0; above = h .1 .1 }) (λ s. (s .inside, (s .other, s .above)))
       (d-and (d-le (suc (getD (r .targets) e 0)) (states r))
       (d-and (d-not (cases-eq (getD (r .targets) e 0) u))
       (d-imp (d-le (suc (getD (r .firsts) u 0)) e) (d-le (suc (getD (r .targets) (e - 1) 0)) (getD (r .targets) e 0)))))
 
-  d-estimate : (s : ℕ) → Decided (GoodEstimate r s)
+  pub d-estimate : (s : ℕ) → Decided (GoodEstimate r s)
   d-estimate s =
       d-as (λ h. record { small = h .0; nought = h .1 }) (λ g. (g .small, g .nought))
       (d-and (d-le (getD (r .estimates) s 0) 1023000) (d-imp (cases-eq s (r .goal)) (cases-eq (getD (r .estimates) s 0) 0)))
 
-  d-slope : (u e : ℕ) → Decided (GoodSlope r u e)
+  pub d-slope : (u e : ℕ) → Decided (GoodSlope r u e)
   d-slope u e = d-le (getD (r .estimates) u 0) (getD (r .costs) e 0 + getD (r .estimates) (getD (r .targets) e 0) 0)
 
   -- An entry is bad by some state that holds it.

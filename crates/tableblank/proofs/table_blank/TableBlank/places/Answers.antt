@@ -1,0 +1,25 @@
+use mathlib.Core.Path.{sym, _∙_}
+use native.Mathlib.Omega.{arith}
+use Rattle.table.specs.Checks.{rowsIn}
+use Rattle.tableblank.specs.Passed.{passes-shape}
+use Rattle.tableblank.specs.Laws.{row-length, none-outside}
+use Rattle.tableblank.proofs.table_blank.TableBlank.places.Needs as need
+
+pub returns-then-state-self : need.returns-then-state-self
+returns-then-state-self c =
+    let x = c .args .self .now in
+    sym (row-length (rowsIn (x .rows)) (c .args .state) ∙ none-outside (rowsIn (x .rows)) (x .sound) (c .args .state) (c .if-state-self .taken))
+
+pub index-self-state : need.index-self-state
+index-self-state c = let x = c .args .self .now in omega (arith, passes-shape (rowsIn (x .rows)) (x .sound) .one-more)
+
+pub index-self-state-2 : need.index-self-state-2
+index-self-state-2 c = let x = c .args .self .now in omega (arith, passes-shape (rowsIn (x .rows)) (x .sound) .one-more)
+
+pub sub-result : need.sub-result
+sub-result c =
+    let x = c .args .self .now in
+    omega (arith, passes-shape (rowsIn (x .rows)) (x .sound) .rising (c .args .state) (omega arith))
+
+pub returns : need.returns
+returns c = sym (row-length (rowsIn (c .args .self .now .rows)) (c .args .state))

@@ -1,0 +1,4 @@
+pub mod Tabled
+pub mod Passed
+pub mod Laws
+pub mod Made

@@ -1,0 +1,5 @@
+pub mod Knotted
+pub mod KnottedLaws
+pub mod Marking
+pub mod Rounded
+pub mod RoundedLaws

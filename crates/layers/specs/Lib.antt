@@ -1,3 +1,4 @@
+pub mod Corridor
 pub mod Knotted
 pub mod KnottedLaws
 pub mod Marking

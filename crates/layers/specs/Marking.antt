@@ -1,10 +1,12 @@
 -- Which states may be marked.
 use mathlib.Core.Bool.{Bool, cond, _||_}
+use mathlib.Core.List.{List}
 use Prim.Native.Nat.{ℕ}
 use lib.Dec.{eqb, leb}
 use Rattle.course.specs.Blanks.{Meaning}
 use Rattle.course.specs.Refusals.{numberOf}
 use Rattle.course.specs.declared.refusal.Refusal.the-variants.{KnotBarred, KnotMarked, KnotsFull}
+use Rattle.layers.specs.Knotted.{among}
 use Rattle.layers.specs.declared.may_mark.MayMark.{MayMark}
 use Rattle.layers.specs.declared.may_mark.MayMark.the-variants.{Yes, Barred, Marked, Full}
 
@@ -19,7 +21,7 @@ mark-number Full = numberOf KnotsFull
 abbrev pub barred : Meaning → ℕ → Bool
 barred m s = leb (m .states) s || (eqb s (m .start) || eqb s (m .goal))
 
--- Whether s may be marked over m, where these states are marked and so many knots stand. Of the refusals that apply, the one with the
--- smallest number is told.
-abbrev pub may-be-marked : Meaning → (ℕ → Bool) → ℕ → ℕ → MayMark
-may-be-marked m marked count s = cond (barred m s) Barred (cond (marked s) Marked (cond (leb 64 count) Full Yes))
+-- Whether s may be marked over m, where the knots are the first `count` of a list. Of the refusals that apply, the one with the smallest
+-- number is told.
+abbrev pub may-be-marked : Meaning → List ℕ → ℕ → ℕ → MayMark
+may-be-marked m knots count s = cond (barred m s) Barred (cond (among knots count s) Marked (cond (leb 64 count) Full Yes))

@@ -1,13 +1,17 @@
 -- A rounded blank keeps the laws, and rounding is what it says: the greatest multiple that is not above.
 use mathlib.Core.List.{List}
-use Prim.Native.Nat.{ℕ, _*_, _/_, _≤_}
-use native.Mathlib.Nat.{div-mul-le-self}
+use Prim.Native.Nat.{ℕ, _*_, _≤_, _<_}
+use native.Mathlib.Nat.{div-mul-le-self, le-div-iff-mul-le, mul-le-mul-right}
 use native.Mathlib.Omega.{arith}
 use Rattle.course.specs.Blanks.{Meaning, Leads, Walk, stay, cut, Lawful}
 use Rattle.layers.specs.Rounded.{rounded, lowered}
 
+-- it is not above, and no greater multiple is
 pub lowered-under : (step x : ℕ) → lowered step x ≤ x
 lowered-under step x = div-mul-le-self x step
+
+pub lowered-greatest : (step x k : ℕ) → 0 < step → k * step ≤ x → k * step ≤ lowered step x
+lowered-greatest step x k h le = mul-le-mul-right step (le-div-iff-mul-le h .1 le)
 
 module _ (m : Meaning) (step : ℕ) where
   abbrev led : {u v c : ℕ} → Leads (rounded m step) u v c → Leads m u v c

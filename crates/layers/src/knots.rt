@@ -43,7 +43,7 @@ impl<B: Blank> Knots<B> {
 
     // Whether a state may be marked now; else the refusal with the smallest number that applies.
     pub fn may_mark(&self, state: u32) -> MayMark
-        ensures { λ r. ⌜ r ≡ may-be-marked (meaning (now (self .entry) .below)) (among (now (self .entry) .knots) (now (self .entry) .count)) (now (self .entry) .count) state ⌝ }
+        ensures { λ r. ⌜ r ≡ may-be-marked (meaning (now (self .entry) .below)) (now (self .entry) .knots) (now (self .entry) .count) state ⌝ }
     {
         if state >= self.below.states() {
             return MayMark::Barred;
@@ -66,8 +66,8 @@ impl<B: Blank> Knots<B> {
     // Marks a state where it may be marked, and that state only; elsewhere gives the layer back as it was.
     pub fn mark(mut self, state: u32) -> Knots<B>
         ensures below { λ r. ⌜ r .below ≡ self .below ⌝ }
-        ensures marked { λ r. ⌜ (may-be-marked (meaning (self .below)) (among (self .knots) (self .count)) (self .count) state ≡ Yes → (r .count ≡ self .count + 1) × ((s : ℕ) → among (r .knots) (r .count) s ≡ (eqb state s || among (self .knots) (self .count) s))) ⌝ }
-        ensures refused { λ r. ⌜ ((may-be-marked (meaning (self .below)) (among (self .knots) (self .count)) (self .count) state ≡ Yes → ⊥) → r ≡ self) ⌝ }
+        ensures marked { λ r. ⌜ (may-be-marked (meaning (self .below)) (self .knots) (self .count) state ≡ Yes → (r .count ≡ self .count + 1) × ((s : ℕ) → among (r .knots) (r .count) s ≡ (eqb state s || among (self .knots) (self .count) s))) ⌝ }
+        ensures refused { λ r. ⌜ ((may-be-marked (meaning (self .below)) (self .knots) (self .count) state ≡ Yes → ⊥) → r ≡ self) ⌝ }
     {
         let MayMark::Yes = self.may_mark(state) else {
             return self;

@@ -3,6 +3,8 @@
 mod knots;
 mod may_mark;
 mod rounding;
+#[cfg(test)]
+mod tests;
 
 pub use knots::Knots;
 pub use knots::KnotsBlank;

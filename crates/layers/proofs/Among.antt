@@ -19,8 +19,8 @@ pub among-at : (xs : List ℕ) (i n s : ℕ) → i < n → getD xs i 0 ≡ s →
 among-at xs i zero s h e = absurd (omega arith)
 among-at xs i (suc n) s h e =
     elim (cases-eq i n) [
-      inl same ↦ ap (λ b. b || among xs n s) (eq-eqb (getD xs n 0) s (ap (λ k. getD xs k 0) (sym same) ∙ e))
-    | inr other ↦ or-right (eqb (getD xs n 0) s) (among xs n s) (among-at xs i n s (omega arith) e)
+      | inl same ↦ ap (λ b. b || among xs n s) (eq-eqb (getD xs n 0) s (ap (λ k. getD xs k 0) (sym same) ∙ e))
+      | inr other ↦ or-right (eqb (getD xs n 0) s) (among xs n s) (among-at xs i n s (omega arith) e)
     ]
 
 pub among-more : (xs : List ℕ) (n s : ℕ) → among xs n s ≡ false → (getD xs n 0 ≡ s → ⊥) → among xs (n + 1) s ≡ false

@@ -27,7 +27,11 @@ impl<B: Blank> Knots<B> {
     pub fn over(below: B) -> Knots<B>
         ensures { λ r. ⌜ r .below ≡ below ⌝ ∗ ⌜ r .count ≡ 0 ⌝ }
     {
-        Knots { below, knots: [0; 64], count: 0 }
+        Knots {
+            below,
+            knots: [0; 64],
+            count: 0,
+        }
     }
 
     pub fn is_marked(&self, state: u32) -> bool

@@ -33,10 +33,16 @@ impl<B: Blank> Rounding<B> {
         ensures { λ r. ⌜ elim r [ Ok v ↦ (1 ≤ step) × (step ≤ 1000) × (v .below ≡ below) × (v .step ≡ step) | Err e ↦ (1 ≤ step → step ≤ 1000 → ⊥) × (e .below ≡ below) × (e .refusal ≡ BadStep) ] ⌝ }
     {
         if step < LEAST_STEP {
-            return Err(Unrounded { below, refusal: Refusal::BadStep });
+            return Err(Unrounded {
+                below,
+                refusal: Refusal::BadStep,
+            });
         }
         if step > MOST_STEP {
-            return Err(Unrounded { below, refusal: Refusal::BadStep });
+            return Err(Unrounded {
+                below,
+                refusal: Refusal::BadStep,
+            });
         }
         Ok(Rounding { below, step })
     }

@@ -29,16 +29,11 @@ pub struct Unrounded<B> {
 }
 
 impl<B: Blank> Rounding<B> {
+    // The layer with this step, which is 1 to 1,000; with any other the blank comes back.
     pub fn over(below: B, step: u32) -> Result<Rounding<B>, Unrounded<B>>
         ensures { λ r. ⌜ elim r [ Ok v ↦ (1 ≤ step) × (step ≤ 1000) × (v .below ≡ below) × (v .step ≡ step) | Err e ↦ (1 ≤ step → step ≤ 1000 → ⊥) × (e .below ≡ below) × (e .refusal ≡ BadStep) ] ⌝ }
     {
-        if step < LEAST_STEP {
-            return Err(Unrounded {
-                below,
-                refusal: Refusal::BadStep,
-            });
-        }
-        if step > MOST_STEP {
+        if step < LEAST_STEP || step > MOST_STEP {
             return Err(Unrounded {
                 below,
                 refusal: Refusal::BadStep,

@@ -1,4 +1,4 @@
--- Rows that pass the checks spell a lawful blank.
+-- Rows that pass the checks spell a lawful blank. The table carries this proof, so it stands here and not among the proofs.
 use mathlib.Core.Path.{_≡_, refl, sym, ap, _∙_}
 use mathlib.Core.List.{List, []}
 use mathlib.Core.Logic.{inl, inr}
@@ -79,27 +79,31 @@ module _ (r : Rows) (p : Passes r) where
   -- Targets rise within a state and pass its own number by, so entry i leads to i or beyond, and beyond once i has reached that number.
   climbs : (u i : ℕ) → i < entries r u → (i ≤ getD (r .targets) (first r u + i) 0) × (u ≤ i → i < getD (r .targets) (first r u + i) 0)
   climbs u zero h =
-      let g = passes-target r p u (first r u + 0) (holds-at u 0 h) in
-      (omega arith, λ le. elim (cases-order (getD (r .targets) (first r u + 0) 0) u) [
-        | inl same ↦ absurd (g .other same)
-        | inr (inl less) ↦ omega arith
-        | inr (inr more) ↦ omega arith
-      ])
+      let g = passes-target r p u (first r u + 0) (holds-at u 0 h) in (
+        omega arith,
+        λ le. elim (cases-order (getD (r .targets) (first r u + 0) 0) u) [
+          | inl same ↦ absurd (g .other same)
+          | inr (inl less) ↦ omega arith
+          | inr (inr more) ↦ omega arith
+        ],
+      )
   climbs u (suc i) h =
       let g = passes-target r p u (first r u + suc i) (holds-at u (suc i) h) in
       let before = climbs u i (omega arith) in
       let here : first r u + suc i - 1 ≡ first r u + i = omega arith in
       let rose : getD (r .targets) (first r u + i) 0 < getD (r .targets) (first r u + suc i) 0 =
-          omega (arith, g .above (omega arith), ap (λ n. getD (r .targets) n 0) here) in
-      (omega (arith, before .0, rose), λ le. elim (cases-lt i u) [
-        | inl less ↦
-            elim (cases-order (getD (r .targets) (first r u + suc i) 0) u) [
-              | inl same ↦ absurd (g .other same)
-              | inr (inl low) ↦ absurd (omega (arith, before .0, rose))
-              | inr (inr high) ↦ omega (arith, before .0, rose)
-            ]
-        | inr past ↦ omega (arith, before .1 past, rose)
-      ])
+      omega (arith, g .above (omega arith), ap (λ n. getD (r .targets) n 0) here) in (
+        omega (arith, before .0, rose),
+        λ le. elim (cases-lt i u) [
+          | inl less ↦
+              elim (cases-order (getD (r .targets) (first r u + suc i) 0) u) [
+                | inl same ↦ absurd (g .other same)
+                | inr (inl low) ↦ absurd (omega (arith, before .0, rose))
+                | inr (inr high) ↦ omega (arith, before .0, rose)
+              ]
+          | inr past ↦ omega (arith, before .1 past, rose)
+        ],
+      )
 
   -- A state has fewer entries than there are states.
   few : (u n : ℕ) → entries r u ≡ n → n ≤ 1023

@@ -1,4 +1,5 @@
--- What rows that pass the checks are known by: each check, told as what holds.
+-- What rows that pass the checks are known by: each check, told as what holds. Like Laws, it stands here and not among the proofs, since a
+-- table's proof of its laws is part of what it is.
 use mathlib.Core.Logic.{inl, inr}
 use Prim.Native.Nat.{ℕ, _<_}
 use lib.ListN.{length, getD}

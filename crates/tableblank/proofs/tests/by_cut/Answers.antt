@@ -8,5 +8,5 @@ add-result g c =
     let x = c .args .blank .now in
     let law = g .B·Blank .lawful x in
     let a : Leads (g .B·Blank .meaning x) (c .args .state) (c .in-Some .to) (c .in-Some .cost) =
-        record { place = c .args .place; holds = sym (c .in-Some .ensures tt) } in
+    record { place = c .args .place; holds = sym (c .in-Some .ensures tt) } in
     omega (arith, law .cost-most a, law .estimate-most (c .in-Some .to), c .estimate .ensures)

@@ -17,23 +17,18 @@ returns-then-place-places c =
 within : (c : Else-place-places) → c .args .place < entries (rowsIn (c .args .self .now .rows)) (c .args .state)
 within c = omega (arith, row-length (rowsIn (c .args .self .now .rows)) (c .args .state))
 
-pub index-self-state : need.index-self-state
-index-self-state c =
+pub nth-requires : need.nth-requires
+nth-requires c κs =
     let x = c .args .self .now in
-    omega (arith, holds-at (rowsIn (x .rows)) (x .sound) (c .args .state) (c .args .place) (within c) .state, passes-shape (rowsIn (x .rows)) (x .sound) .one-more)
-
-pub index-self-entry : need.index-self-entry
-index-self-entry c =
-    let x = c .args .self .now in
-    entry-in (rowsIn (x .rows)) (x .sound) (c .args .state) (c .args .place) (within (need.at·index-self-entry c .Else-place-places))
-
-pub index-self-entry-2 : need.index-self-entry-2
-index-self-entry-2 c =
-    let x = c .args .self .now in
-    let h = entry-in (rowsIn (x .rows)) (x .sound) (c .args .state) (c .args .place) (within (need.at·index-self-entry-2 c .Else-place-places)) in
-    omega (arith, h, passes-shape (rowsIn (x .rows)) (x .sound) .alike)
+    let r = rowsIn (x .rows) in
+    let s = passes-shape r (x .sound) in
+    record {
+      state = omega (arith, holds-at r (x .sound) (c .args .state) (c .args .place) (within c) .state, s .one-more);
+      target = entry-in r (x .sound) (c .args .state) (c .args .place) (within c);
+      cost = s .alike;
+    }
 
 pub returns : need.returns
 returns c =
-    let r = rowsIn (c .args .self .now .rows) in
-    sym (row-at r (c .args .state) (c .args .place) (within (need.at·returns c .Else-place-places)))
+    let here = row-at (rowsIn (c .args .self .now .rows)) (c .args .state) (c .args .place) (within (need.at·returns c .Else-place-places)) in
+    cc

@@ -10,16 +10,11 @@ returns-then-state-self c =
     let x = c .args .self .now in
     sym (row-length (rowsIn (x .rows)) (c .args .state) ∙ none-outside (rowsIn (x .rows)) (x .sound) (c .args .state) (c .if-state-self .taken))
 
-pub index-self-state : need.index-self-state
-index-self-state c = let x = c .args .self .now in omega (arith, passes-shape (rowsIn (x .rows)) (x .sound) .one-more)
-
-pub index-self-state-2 : need.index-self-state-2
-index-self-state-2 c = let x = c .args .self .now in omega (arith, passes-shape (rowsIn (x .rows)) (x .sound) .one-more)
-
-pub sub-result : need.sub-result
-sub-result c =
+pub span-requires : need.span-requires
+span-requires c κs =
     let x = c .args .self .now in
-    omega (arith, passes-shape (rowsIn (x .rows)) (x .sound) .rising (c .args .state) (omega arith))
+    let s = passes-shape (rowsIn (x .rows)) (x .sound) in
+    (omega (arith, s .one-more), s .rising (c .args .state) (omega arith))
 
 pub returns : need.returns
-returns c = sym (row-length (rowsIn (c .args .self .now .rows)) (c .args .state))
+returns c = c .span .ensures ∙ sym (row-length (rowsIn (c .args .self .now .rows)) (c .args .state))

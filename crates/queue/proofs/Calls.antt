@@ -24,8 +24,8 @@ module _ {R : Type 0} where
 
   -- the earliest one, x, was exchanged with the last held one, y
   pub taken-out : (state : R → ℕ) (precedes : R → R → Bool) (s : ℕ) (xs : List R) (n b : ℕ) (x y : R) → 0 < n → n ≤ length xs
-    → Earliest precedes xs n b → x ≡ getD xs b x → y ≡ getD xs (n - 1) y → s ≡ state x
-    → Taken state precedes s xs n (set (set xs b y) (n - 1) x) (n - 1)
+      → Earliest precedes xs n b → x ≡ getD xs b x → y ≡ getD xs (n - 1) y → s ≡ state x
+      → Taken state precedes s xs n (set (set xs b y) (n - 1) x) (n - 1)
   taken-out state precedes s xs n b x y pos le inv rx ry st =
       let m : ℕ = n - 1 in
       let ys : List R = set (set xs b y) m x in
@@ -33,15 +33,15 @@ module _ {R : Type 0} where
       let ex : Exchange xs ys n b m = exchange xs n b m x y (inv .0) (omega arith) le rx ry in
       let ml : m < length ys = omega (arith, ex .long) in
       let behind : take n ys ≡ take m ys ++ x ∷ [] =
-            ap (λ k. take k ys) e ∙ take-more ys m x ml ∙ ap (λ z. take m ys ++ z ∷ []) (ex .at-b x ∙ sym rx)
+      ap (λ k. take k ys) e ∙ take-more ys m x ml ∙ ap (λ z. take m ys ++ z ∷ []) (ex .at-b x ∙ sym rx)
       in
       record {
         fewer = e;
         out = x;
         told = st;
         first = λ k d kn.
-          let xd : x ≡ getD xs b d = getD-read xs b x (omega (arith, inv .0)) rx d in
-          ap (λ z. precedes z (getD xs k d)) xd ∙ inv .1 k d kn;
+            let xd : x ≡ getD xs b d = getD-read xs b x (omega (arith, inv .0)) rx d in
+            ap (λ z. precedes z (getD xs k d)) xd ∙ inv .1 k d kn;
         held = subst (λ (l : List R). Shuffled (take n xs) l) behind (ex .part);
         behind = behind;
         whole = ex .whole;

@@ -26,23 +26,25 @@ module _ {R : Type 0} {state : R → ℕ} {precedes : R → R → Bool} (law : L
   earliest-none xs = (omega arith, λ k d. below-more (λ k. precedes (getD xs 0 d) (getD xs k d) ≡ true) 0 (λ k h. absurd (omega arith)) (precedes-itself _) k)
 
   pub earliest-new : (xs : List R) (i b : ℕ) (x y : R) → Earliest precedes xs i b → i < length xs → x ≡ getD xs i x → y ≡ getD xs b y
-    → precedes x y ≡ true → Earliest precedes xs (i + 1) i
+      → precedes x y ≡ true → Earliest precedes xs (i + 1) i
   earliest-new xs i b x y inv lt rx ry e =
-      let lb : b < length xs = omega (arith, inv .0) in
-      ( omega arith
-      , λ k d.
-          let at : x ≡ getD xs i d = getD-read xs i x lt rx d in
-          let bt : y ≡ getD xs b d = getD-read xs b y lb ry d in
-          let xy : precedes (getD xs i d) (getD xs b d) ≡ true = rw (← at, ← bt) e in
-          below-more (λ k. precedes (getD xs i d) (getD xs k d) ≡ true) i (λ k h. law .onward _ _ _ xy (inv .1 k d h)) (precedes-itself _) k )
+      let lb : b < length xs = omega (arith, inv .0) in (
+        omega arith,
+        λ k d.
+            let at : x ≡ getD xs i d = getD-read xs i x lt rx d in
+            let bt : y ≡ getD xs b d = getD-read xs b y lb ry d in
+            let xy : precedes (getD xs i d) (getD xs b d) ≡ true = rw (← at, ← bt) e in
+            below-more (λ k. precedes (getD xs i d) (getD xs k d) ≡ true) i (λ k h. law .onward _ _ _ xy (inv .1 k d h)) (precedes-itself _) k,
+      )
 
   pub earliest-old : (xs : List R) (i b : ℕ) (x y : R) → Earliest precedes xs i b → i < length xs → x ≡ getD xs i x → y ≡ getD xs b y
-    → precedes x y ≡ false → Earliest precedes xs (i + 1) b
+      → precedes x y ≡ false → Earliest precedes xs (i + 1) b
   earliest-old xs i b x y inv lt rx ry e =
-      let lb : b < length xs = omega (arith, inv .0) in
-      ( omega (arith, inv .0)
-      , λ k d.
-          let at : x ≡ getD xs i d = getD-read xs i x lt rx d in
-          let bt : y ≡ getD xs b d = getD-read xs b y lb ry d in
-          let yx : precedes (getD xs b d) (getD xs i d) ≡ true = rw (← at, ← bt) (from-later x y e) in
-          below-more (λ k. precedes (getD xs b d) (getD xs k d) ≡ true) i (λ k h. inv .1 k d h) yx k )
+      let lb : b < length xs = omega (arith, inv .0) in (
+        omega (arith, inv .0),
+        λ k d.
+            let at : x ≡ getD xs i d = getD-read xs i x lt rx d in
+            let bt : y ≡ getD xs b d = getD-read xs b y lb ry d in
+            let yx : precedes (getD xs b d) (getD xs i d) ≡ true = rw (← at, ← bt) (from-later x y e) in
+            below-more (λ k. precedes (getD xs b d) (getD xs k d) ≡ true) i (λ k h. inv .1 k d h) yx k,
+      )

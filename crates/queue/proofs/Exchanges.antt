@@ -22,13 +22,13 @@ pub record Exchange {R : Type 0} (xs ys : List R) (n a b : ℕ) : Type 0 where
 
 module _ {R : Type 0} where
   crossed : (xs : List R) (a b : ℕ) (x y : R) → a < length xs → b < length xs → x ≡ getD xs a x → y ≡ getD xs b y
-    → set (set xs a y) b x ≡ exchanged xs a b
+      → set (set xs a y) b x ≡ exchanged xs a b
   crossed xs a b x y al bl rx ry =
       ap (λ v. set (set xs a y) b v) (getD-read xs a x al rx y) ∙ ap (λ v. set (set xs a v) b (getD xs a y)) ry ∙ exchanged-is xs a b y al bl
 
   -- x and y, read at a and b, were each written in the other's place
   pub exchange : (xs : List R) (n a b : ℕ) (x y : R) → a < n → b < n → n ≤ length xs → x ≡ getD xs a x → y ≡ getD xs b y
-    → Exchange xs (set (set xs a y) b x) n a b
+      → Exchange xs (set (set xs a y) b x) n a b
   exchange xs n a b x y an bn le rx ry =
       let ys : List R = set (set xs a y) b x in
       let al : a < length xs = omega arith in
@@ -38,8 +38,8 @@ module _ {R : Type 0} where
       let at : a < length (take n xs) = omega arith in
       let bt : b < length (take n xs) = omega arith in
       let front : take n ys ≡ exchanged (take n xs) a b =
-            take-set-lt n (set xs a y) b x bn ∙ ap (λ l. set l b x) (take-set-lt n xs a y an)
-            ∙ crossed (take n xs) a b x y at bt (rx ∙ sym (getD-take n xs a x an)) (ry ∙ sym (getD-take n xs b y bn))
+      take-set-lt n (set xs a y) b x bn ∙ ap (λ l. set l b x) (take-set-lt n xs a y an)
+      ∙ crossed (take n xs) a b x y at bt (rx ∙ sym (getD-take n xs a x an)) (ry ∙ sym (getD-take n xs b y bn))
       in
       record {
         long = length-set (set xs a y) b x ∙ length-set xs a y;

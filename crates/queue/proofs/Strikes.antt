@@ -42,7 +42,7 @@ module _ {R : Type 0} (state : R → ℕ) (s : ℕ) (row : List R) (n : ℕ) whe
 
   -- the one at i, x, stays
   pub striking-stays : (ys : List R) (i m : ℕ) (x : R) → Striking state s row n ys i m → i < m → n ≤ length row → x ≡ getD ys i x
-    → (state x ≡ s → ⊥) → Striking state s row n ys (i + 1) m
+      → (state x ≡ s → ⊥) → Striking state s row n ys (i + 1) m
   striking-stays ys i m x inv lt le rx other =
       let il : i < length ys = omega (arith, inv .high, inv .long) in
       record {
@@ -58,7 +58,7 @@ module _ {R : Type 0} (state : R → ℕ) (s : ℕ) (row : List R) (n : ℕ) whe
 
   -- the one at i, x, goes, and y, the last that is not yet looked at, comes to its place
   pub striking-goes : (ys : List R) (i m : ℕ) (x y : R) → Striking state s row n ys i m → i < m → n ≤ length row → x ≡ getD ys i x → y ≡ getD ys (m - 1) y
-    → state x ≡ s → Striking state s row n (set (set ys i y) (m - 1) x) i (m - 1)
+      → state x ≡ s → Striking state s row n (set (set ys i y) (m - 1) x) i (m - 1)
   striking-goes ys i m x y inv lt le rx ry st =
       let zs : List R = set (set ys i y) (m - 1) x in
       let il : i < length ys = omega (arith, inv .high, inv .long) in
@@ -69,7 +69,7 @@ module _ {R : Type 0} (state : R → ℕ) (s : ℕ) (row : List R) (n : ℕ) whe
         long = ex .long ∙ inv .long;
         clear = λ k d h e. inv .clear k d h (ap state (sym (ex .others k d (λ q. omega arith) (λ q. omega arith))) ∙ e);
         gone = λ k d h l.
-          ⊎-elim
+            ⊎-elim
             (λ (q : k ≡ m - 1). ap (λ j. state (getD zs j d)) q ∙ ap state (ex .at-b d ∙ sym (getD-read ys i x il rx d)) ∙ st)
             (λ (q : k ≡ m - 1 → ⊥). ap state (ex .others k d (λ r. q (omega arith)) q) ∙ inv .gone k d (past k m h q) l)
             (cases-eq k (m - 1));

@@ -41,7 +41,7 @@ impl<'q, R: Rank + Copy> Queue<'q, R> {
         ensures answer { λ a. ⌜ Cases a
             (λ _. Put rank (now (now (self .entry) .row)) (now (self .entry) .len) (now (now (self .exit) .row)) (now (self .exit) .len))
             (λ e. (numberOf e ≡ 39) × (now (self .entry) .len ≡ length (now (now (self .entry) .row)))
-                × Unchanged (now (now (self .entry) .row)) (now (self .entry) .len) (now (now (self .exit) .row)) (now (self .exit) .len)) ⌝ }
+            × Unchanged (now (now (self .entry) .row)) (now (self .entry) .len) (now (now (self .exit) .row)) (now (self .exit) .len)) ⌝ }
     {
         if self.len < self.row.len() {
             self.row[self.len] = rank;
@@ -58,7 +58,7 @@ impl<'q, R: Rank + Copy> Queue<'q, R> {
         ensures answer { λ a. ⌜ Cases a
             (λ s. Taken state precedes s (now (now (self .entry) .row)) (now (self .entry) .len) (now (now (self .exit) .row)) (now (self .exit) .len))
             (λ e. (numberOf e ≡ 40) × (now (self .entry) .len ≡ 0)
-                × Unchanged (now (now (self .entry) .row)) (now (self .entry) .len) (now (now (self .exit) .row)) (now (self .exit) .len)) ⌝ }
+            × Unchanged (now (now (self .entry) .row)) (now (self .entry) .len) (now (now (self .exit) .row)) (now (self .exit) .len)) ⌝ }
     {
         if self.len == 0 {
             return Err(Refusal::QueueEmpty);

@@ -20,9 +20,10 @@ loop-i-again g c =
     let lt : i < length xs = omega (arith, c .args .self .now .fits, c .loop-i-test .taken) in
     let bt : c .loop-i .best < length xs = omega (arith, lt, c .loop-i .inv .0) in
     let P : ℕ → Type 0 = λ b. Earliest (g .R·Rank .precedes) xs (i + 1) b in
-    elim (c .if-no-later .came)
-      [ then-no-later w ↦ subst P (sym (w .best-is)) (earliest-new law xs i _ _ _ (c .loop-i .inv) lt (getD-default xs _ _ _ lt) (getD-default xs _ _ _ bt) (sym (c .no-later .ensures) ∙ w .if-no-later .taken))
-      | else-no-later w ↦ subst P (sym (w .best-is)) (earliest-old law xs i _ _ _ (c .loop-i .inv) lt (getD-default xs _ _ _ lt) (getD-default xs _ _ _ bt) (sym (c .no-later .ensures) ∙ w .if-no-later .left)) ]
+    elim (c .if-no-later .came) [
+      | then-no-later w ↦ subst P (sym (w .best-is)) (earliest-new law xs i _ _ _ (c .loop-i .inv) lt (getD-default xs _ _ _ lt) (getD-default xs _ _ _ bt) (sym (c .no-later .ensures) ∙ w .if-no-later .taken))
+      | else-no-later w ↦ subst P (sym (w .best-is)) (earliest-old law xs i _ _ _ (c .loop-i .inv) lt (getD-default xs _ _ _ lt) (getD-default xs _ _ _ bt) (sym (c .no-later .ensures) ∙ w .if-no-later .left))
+    ]
 
 pub returns : need.returns
 returns g c =

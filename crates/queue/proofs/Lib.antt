@@ -1,0 +1,4 @@
+pub mod Exchanges
+pub mod Earliest
+pub mod Calls
+pub mod Strikes

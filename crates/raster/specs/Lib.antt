@@ -1,0 +1,3 @@
+pub mod Rastered
+pub mod Laws
+pub mod Fit

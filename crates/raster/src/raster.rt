@@ -78,10 +78,9 @@ impl<'a> Raster<'a> {
     }
 }
 
-// The smallest byte above 0, and 255 where there is none. No byte is larger.
+// The smallest byte above 0, and 255 where there is none.
 fn least_cost(bytes: &[u8]) -> u8
-    ensures least { λ r. ⌜ r ≡ least-cost (now (bytes .entry)) ⌝ }
-    ensures small { λ _. ⌜ ((k : ℕ) → getD (now (bytes .entry)) k 0 ≤ 255) ⌝ }
+    ensures { λ r. ⌜ r ≡ least-cost (now (bytes .entry)) ⌝ }
 {
     let mut least = u8::MAX;
     for byte in bytes {

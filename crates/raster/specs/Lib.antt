@@ -1,3 +1,4 @@
 pub mod Rastered
 pub mod Laws
 pub mod Fit
+pub mod Laid

@@ -12,11 +12,11 @@ use Rattle.std.specs.declared.option.Option.{Option}
 use Rattle.std.specs.declared.option.Option.the-variants.{Some, None}
 use Rattle.std.proofs.shelf.Bits.{mul-le, mul-add-lt, div-mul-add, mod-mul-add, div-below, mod-below}
 use Rattle.std.proofs.shelf.Lists.{getD-past}
-use Rattle.std.proofs.shelf.Tests.{cases-lt, cases-bool, ltb-true, ltb-false, lt-ltb, le-ltb, eqb-true, eqb-false, cond-true, cond-false}
+use Rattle.std.proofs.shelf.Tests.{cases-lt, cases-bool, ltb-true, ltb-false, lt-ltb, le-ltb, eqb-false, ne-eqb, cond-true, cond-false}
 use Rattle.course.specs.Blanks.{Meaning, Leads, Walk, stay, cut, Lawful}
 use Rattle.raster.specs.declared.direction.Direction.{Direction}
 use Rattle.raster.specs.declared.direction.Direction.the-variants.{Up, Right, Down, Left}
-use Rattle.raster.specs.Rastered.{cell-at, neighbour, entering, cut-into, four, number, axis-distance, distance, least-cost, rastered}
+use Rattle.raster.specs.Rastered.{cell-at, neighbour, entering, cut-into, four, number, axis-distance, distance, lesser, least-cost, rastered}
 
 -- What a test lets through holds, and is what came out.
 passed : {X : Type 0} (b : Bool) (x y : X) → cond b (Some x) None ≡ Some y → (b ≡ true) × (x ≡ y)
@@ -27,10 +27,10 @@ passed false x y e = absurd (let z : _≡_ {A = ℕ} 0 1 = cc in omega arith)
 open-wood : (n : ℕ) (x y : ℕ × ℕ) → cond (eqb n 0) None (Some x) ≡ Some y → (n ≡ 0 → ⊥) × (x ≡ y)
 open-wood n x y e =
     let at : (b : Bool) → cond b None (Some x) ≡ Some y → (b ≡ false) × (x ≡ y)
-        = λ b. elim b as (λ b. cond b None (Some x) ≡ Some y → (b ≡ false) × (x ≡ y)) [
-            true ↦ λ e. absurd (let z : _≡_ {A = ℕ} 0 1 = cc in omega arith)
-          | false ↦ λ e. (refl, cc)
-          ] in
+    = λ b. elim b as (λ b. cond b None (Some x) ≡ Some y → (b ≡ false) × (x ≡ y)) [
+      | true ↦ λ e. absurd (let z : _≡_ {A = ℕ} 0 1 = cc in omega arith)
+      | false ↦ λ e. (refl, cc)
+    ] in
     let h = at (eqb n 0) e in
     (eqb-false n 0 (h .0), h .1)
 
@@ -38,31 +38,23 @@ open-wood n x y e =
 pub axis-distance-falls : (a b goal : ℕ) → a ≤ b + 1 → b ≤ a + 1 → axis-distance a goal ≤ axis-distance b goal + 1
 axis-distance-falls a b goal h k = omega arith
 
--- No cell with a byte above 0 is cheaper than the least.
+-- A byte above 0 lowers a cost to itself at least, and none raises it.
+lesser-under : (cost byte : ℕ) → (byte ≡ 0 → ⊥) → lesser cost byte ≤ byte
+lesser-under cost byte some = rw (cond-false (eqb byte 0) cost (min cost byte) (ne-eqb byte 0 some)) (min-le-right cost byte)
+
+lesser-falls : (cost byte : ℕ) → lesser cost byte ≤ cost
+lesser-falls cost byte =
+    elim (eqb byte 0) as (λ b. cond b cost (min cost byte) ≤ cost) [ true ↦ omega arith | false ↦ min-le-left cost byte ]
+
+-- No cell that can be entered is cheaper than the least.
 pub least-under : (bytes : List ℕ) (k : ℕ) → (getD bytes k 0 ≡ 0 → ⊥) → least-cost bytes ≤ getD bytes k 0
 least-under [] k some = absurd (some refl)
-least-under (b ∷ bs) zero some =
-    elim (cases-bool (eqb b 0)) [
-      inl kept ↦ absurd (some (eqb-true b 0 kept))
-    | inr cost ↦ rw (cond-false (eqb b 0) (least-cost bs) (min b (least-cost bs)) cost) (min-le-left b (least-cost bs))
-    ]
-least-under (b ∷ bs) (suc k) some =
-    elim (cases-bool (eqb b 0)) [
-      inl kept ↦ rw (cond-true (eqb b 0) (least-cost bs) (min b (least-cost bs)) kept) (least-under bs k some)
-    | inr cost ↦
-        rw (cond-false (eqb b 0) (least-cost bs) (min b (least-cost bs)) cost)
-        (omega (arith, min-le-right b (least-cost bs), least-under bs k some))
-    ]
+least-under (b ∷ bs) zero some = lesser-under (least-cost bs) b some
+least-under (b ∷ bs) (suc k) some = omega (arith, lesser-falls (least-cost bs) b, least-under bs k some)
 
 pub least-most : (bytes : List ℕ) → least-cost bytes ≤ 255
 least-most [] = omega arith
-least-most (b ∷ bs) =
-    elim (cases-bool (eqb b 0)) [
-      inl kept ↦ rw (cond-true (eqb b 0) (least-cost bs) (min b (least-cost bs)) kept) (least-most bs)
-    | inr cost ↦
-        rw (cond-false (eqb b 0) (least-cost bs) (min b (least-cost bs)) cost)
-        (omega (arith, min-le-right b (least-cost bs), least-most bs))
-    ]
+least-most (b ∷ bs) = omega (arith, lesser-falls (least-cost bs) b, least-most bs)
 
 -- The cut in a direction stands at the direction's number.
 pub four-at : (held : Direction → Option (ℕ × ℕ)) (d : Direction) → getD (four held) (number d) None ≡ held d
@@ -198,22 +190,22 @@ module _ (bytes : List ℕ) (width height start goal : ℕ) (wide : 1 ≤ width)
   cut-of : {u v c : ℕ} (l : Leads (rastered bytes width height start goal) u v c) → Cut bytes width height u v c (l .place)
   cut-of {u} {v} {c} l =
       elim (cases-bool (ltb u (width * height))) [
-        inl in-it ↦
-          let held : Direction → Option (ℕ × ℕ) = λ d. cut-into bytes (neighbour width height d u) in
-          let stands : getD (four held) (l .place) None ≡ Some (v, c) = ap (λ x. getD x (l .place) None) (sym (cond-true (ltb u (width * height)) (four held) [] in-it)) ∙ l .holds in
-          let t = toward held (l .place) (v, c) stands in
-          let n = neighbour-cut bytes (neighbour width height (t .direction) u) v c (t .holds) in
-          let from : u < width * height = ltb-true u (width * height) in-it in
-          record {
-            from = from;
-            on = rw (sym (t .at)) (step width height u v (t .direction) wide from (n .0));
-            cost = n .1;
-            entered = n .2;
-          }
-      | inr out ↦
-          absurd
-          (let none : None ≡ Some (v, c) = ap (λ x. getD x (l .place) None) (sym (cond-false (ltb u (width * height)) _ [] out)) ∙ l .holds in
-          let z : _≡_ {A = ℕ} 0 1 = cc in omega arith)
+        | inl in-it ↦
+            let held : Direction → Option (ℕ × ℕ) = λ d. cut-into bytes (neighbour width height d u) in
+            let stands : getD (four held) (l .place) None ≡ Some (v, c) = ap (λ x. getD x (l .place) None) (sym (cond-true (ltb u (width * height)) (four held) [] in-it)) ∙ l .holds in
+            let t = toward held (l .place) (v, c) stands in
+            let n = neighbour-cut bytes (neighbour width height (t .direction) u) v c (t .holds) in
+            let from : u < width * height = ltb-true u (width * height) in-it in
+            record {
+              from = from;
+              on = rw (sym (t .at)) (step width height u v (t .direction) wide from (n .0));
+              cost = n .1;
+              entered = n .2;
+            }
+        | inr out ↦
+            absurd
+            (let none : None ≡ Some (v, c) = ap (λ x. getD x (l .place) None) (sym (cond-false (ltb u (width * height)) _ [] out)) ∙ l .holds in
+            let z : _≡_ {A = ℕ} 0 1 = cc in omega arith)
       ]
 
   estimate-in : (u : ℕ) → u < width * height → rastered bytes width height start goal .estimate u ≡ distance width u goal * least-cost bytes
@@ -229,12 +221,12 @@ module _ (bytes : List ℕ) (width height start goal : ℕ) (wide : 1 ≤ width)
       let line = axis-distance-falls (u / width) (v / width) (goal / width) (omega (arith, s .lines)) (omega (arith, s .lines)) in
       let column = axis-distance-falls (u % width) (v % width) (goal % width) (omega (arith, s .columns)) (omega (arith, s .columns)) in
       elim (cases-lt (s .left + s .right) 1) [
-        inl along ↦
-          let same : u % width ≡ v % width = omega (arith, s .columns) in
-          omega (arith, line, ap (λ n. axis-distance n (goal % width)) same)
-      | inr across ↦
-          let same : u / width ≡ v / width = omega (arith, s .lines) in
-          omega (arith, column, ap (λ n. axis-distance n (goal / width)) same)
+        | inl along ↦
+            let same : u % width ≡ v % width = omega (arith, s .columns) in
+            omega (arith, line, ap (λ n. axis-distance n (goal % width)) same)
+        | inr across ↦
+            let same : u / width ≡ v / width = omega (arith, s .lines) in
+            omega (arith, column, ap (λ n. axis-distance n (goal / width)) same)
       ]
 
   -- Each cut costs at least what the estimate falls by.
@@ -258,17 +250,17 @@ module _ (bytes : List ℕ) (width height start goal : ℕ) (wide : 1 ≤ width)
   estimate-most : (u : ℕ) → goal < width * height → width * height ≤ 1024 → rastered bytes width height start goal .estimate u ≤ 1023000
   estimate-most u inside few =
       elim (cases-lt u (width * height)) [
-        inl h ↦
-          let near : distance width u goal ≤ 2046 = omega (arith, div-le-self u width, mod-le u width, div-le-self goal width, mod-le goal width) in
-          rw (estimate-in u h) (omega (arith, mul-le (distance width u goal) (least-cost bytes) 2046 255 near (least-most bytes)))
-      | inr h ↦ omega (arith, estimate-out u h)
+        | inl h ↦
+            let near : distance width u goal ≤ 2046 = omega (arith, div-le-self u width, mod-le u width, div-le-self goal width, mod-le goal width) in
+            rw (estimate-in u h) (omega (arith, mul-le (distance width u goal) (least-cost bytes) 2046 255 near (least-most bytes)))
+        | inr h ↦ omega (arith, estimate-out u h)
       ]
 
   places-most : (u : ℕ) → length (rastered bytes width height start goal .places u) ≤ 4
   places-most u =
       elim (ltb u (width * height)) as (λ b. length (cond b (four (λ d. cut-into bytes (neighbour width height d u))) []) ≤ 4) [
-        true ↦ omega arith
-      | false ↦ omega arith
+        | true ↦ omega arith
+        | false ↦ omega arith
       ]
 
   pub rastered-lawful : 2 ≤ width * height → width * height ≤ 1024 → start < width * height → goal < width * height → (start ≡ goal → ⊥) → ((k : ℕ) → getD bytes k 0 ≤ 255) → Lawful (rastered bytes width height start goal)

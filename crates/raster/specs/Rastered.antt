@@ -52,10 +52,14 @@ axis-distance a b = (a - b) + (b - a)
 abbrev pub distance : ℕ → ℕ → ℕ → ℕ
 distance width a b = axis-distance (a / width) (b / width) + axis-distance (a % width) (b % width)
 
--- The smallest byte above 0, and 255 where there is none.
+-- The smaller of a cost and a byte, where byte 0 counts for nothing.
+abbrev pub lesser : ℕ → ℕ → ℕ
+lesser cost byte = cond (eqb byte 0) cost (min cost byte)
+
+-- The smallest byte above 0, and 255, the largest, where there is none.
 abbrev pub least-cost : List ℕ → ℕ
 least-cost [] = 255
-least-cost (b ∷ bs) = cond (eqb b 0) (least-cost bs) (min b (least-cost bs))
+least-cost (b ∷ bs) = lesser (least-cost bs) b
 
 -- The blank of a raster: each cell is a state. What is no cell has no places and estimate 0.
 abbrev pub rastered : List ℕ → ℕ → ℕ → ℕ → ℕ → Meaning

@@ -39,7 +39,12 @@ impl Direction {
         let column = cell % width;
         match self {
             Direction::Up if line > 0 => Some(cell_at(width, height, line - 1, column)),
-            Direction::Right if column + 1 < width => Some(cell_at(width, height, line, column + 1)),
+            Direction::Right if column + 1 < width => Some(cell_at(
+                width,
+                height,
+                line,
+                column + 1,
+            )),
             Direction::Down if line + 1 < height => Some(cell_at(width, height, line + 1, column)),
             Direction::Left if column > 0 => Some(cell_at(width, height, line, column - 1)),
             _ => None,

@@ -2,7 +2,7 @@ ghost use mathlib.Core.Path.{_≡_};
 ghost use Prim.Native.Nat.{ℕ, _*_, _≤_, _<_};
 ghost use lib.ListN.{length, getD};
 ghost use denote.Ref.{now as held};
-ghost use Rattle.raster.specs.Rastered.{rastered, entering, distance, least-cost};
+ghost use Rattle.raster.specs.Rastered.{rastered, entering, distance, lesser, least-cost};
 ghost use Rattle.raster.specs.Laws.{rastered-lawful};
 ghost use Rattle.raster.specs.Fit.{FitShape, FitEnds};
 use crate::direction::Direction;
@@ -78,17 +78,25 @@ impl<'a> Raster<'a> {
     }
 }
 
-// The smallest byte above 0, and 255 where there is none.
+// The smallest byte above 0, and 255, the largest, where there is none.
 fn least_cost(bytes: &[u8]) -> u8
     ensures { λ r. ⌜ r ≡ least-cost (now (bytes .entry)) ⌝ }
 {
     let mut least = u8::MAX;
     for byte in bytes {
-        if *byte != 0 {
-            least = least.min(*byte);
-        }
+        least = lesser(least, *byte);
     }
     least
+}
+
+// The smaller of a cost and a byte, where byte 0 counts for nothing.
+fn lesser(cost: u8, byte: u8) -> u8
+    ensures { λ r. ⌜ r ≡ lesser cost byte ⌝ }
+{
+    match byte {
+        0 => cost,
+        _ => cost.min(byte),
+    }
 }
 
 pub impl<'a> Blank for Raster<'a> as RasterBlank {

@@ -7,7 +7,7 @@ use Rattle.raster.proofs.direction.Direction.neighbour.Needs as need
 pub cell-at-requires : need.cell-at-requires
 cell-at-requires c κs =
     let low : c .args .cell / c .args .width < c .args .height
-        = div-below (c .args .cell) (c .args .width) (c .args .height) (c .pre .wide) (omega (arith, mul-comm (c .args .width) (c .args .height))) in
+    = div-below (c .args .cell) (c .args .width) (c .args .height) (c .pre .wide) (omega (arith, mul-comm (c .args .width) (c .args .height))) in
     record { line = omega arith; column = mod-below (c .args .cell) (c .args .width) (c .pre .wide); few = c .pre .few }
 
 pub cell-at-requires-in-Right : need.cell-at-requires-in-Right

@@ -1,0 +1,4 @@
+pub mod Rastered
+pub mod Laws
+pub mod Fit
+pub mod Laid

@@ -15,7 +15,7 @@ pub enum Direction {
 
 impl Direction {
     // The direction of a place, if it is one of the four.
-    pub fn at(place: u32) -> Option<Direction>
+    pub(crate) fn at(place: u32) -> Option<Direction>
         ensures { λ r. ⌜ elim r [ Some d ↦ place ≡ number d | None ↦ 4 ≤ place ] ⌝ }
     {
         match place {
@@ -28,7 +28,7 @@ impl Direction {
     }
 
     // The cell next to a cell in this direction, unless an edge is between.
-    pub fn neighbour(self, width: u32, height: u32, cell: u32) -> Option<u32>
+    pub(crate) fn neighbour(self, width: u32, height: u32, cell: u32) -> Option<u32>
         requires wide { ⌜ 1 ≤ width ⌝ }
         requires few { ⌜ width * height ≤ 1024 ⌝ }
         requires cell { ⌜ cell < width * height ⌝ }

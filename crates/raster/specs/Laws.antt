@@ -1,6 +1,6 @@
 -- The blank of a raster keeps the laws of a blank.
 use mathlib.Core.Path.{_≡_, refl, sym, ap, _∙_}
-use mathlib.Core.Logic.{_⊎_, inl, inr}
+use mathlib.Core.Logic.{inl, inr}
 use mathlib.Core.Bool.{Bool, true, false, cond}
 use mathlib.Core.List.{List, [], _∷_}
 use Prim.Native.Nat.{ℕ, zero, suc, _+_, _-_, _*_, _/_, _%_, _≤_, _<_, min}
@@ -11,28 +11,21 @@ use lib.ListN.{length, getD}
 use Rattle.std.specs.declared.option.Option.{Option}
 use Rattle.std.specs.declared.option.Option.the-variants.{Some, None}
 use Rattle.std.proofs.shelf.Bits.{mul-le, mul-add-lt, div-mul-add, mod-mul-add, div-below, mod-below}
-use Rattle.std.proofs.shelf.Lists.{getD-past}
-use Rattle.std.proofs.shelf.Tests.{cases-lt, cases-bool, ltb-true, ltb-false, lt-ltb, le-ltb, eqb-false, ne-eqb, cond-true, cond-false}
+use Rattle.std.proofs.shelf.Tests.{cases-lt, cases-bool, ltb-true, lt-ltb, le-ltb, eqb-false, ne-eqb, cond-true, cond-false}
 use Rattle.course.specs.Blanks.{Meaning, Leads, Walk, stay, cut, Lawful}
 use Rattle.raster.specs.declared.direction.Direction.{Direction}
 use Rattle.raster.specs.declared.direction.Direction.the-variants.{Up, Right, Down, Left}
-use Rattle.raster.specs.Rastered.{cell-at, neighbour, entering, cut-into, four, number, axis-distance, distance, lesser, least-cost, rastered}
+use Rattle.raster.specs.Rastered.{cell-at, neighbour, cut-into, four, number, axis-distance, distance, lesser, least-cost, rastered}
 
 -- What a test lets through holds, and is what came out.
 passed : {X : Type 0} (b : Bool) (x y : X) → cond b (Some x) None ≡ Some y → (b ≡ true) × (x ≡ y)
 passed true x y e = (refl, cc)
 passed false x y e = absurd (let z : _≡_ {A = ℕ} 0 1 = cc in omega arith)
 
--- Kept wood lets nothing through.
-open-wood : (n : ℕ) (x y : ℕ × ℕ) → cond (eqb n 0) None (Some x) ≡ Some y → (n ≡ 0 → ⊥) × (x ≡ y)
-open-wood n x y e =
-    let at : (b : Bool) → cond b None (Some x) ≡ Some y → (b ≡ false) × (x ≡ y)
-    = λ b. elim b as (λ b. cond b None (Some x) ≡ Some y → (b ≡ false) × (x ≡ y)) [
-      | true ↦ λ e. absurd (let z : _≡_ {A = ℕ} 0 1 = cc in omega arith)
-      | false ↦ λ e. (refl, cc)
-    ] in
-    let h = at (eqb n 0) e in
-    (eqb-false n 0 (h .0), h .1)
+-- The same of a test that stops what it finds.
+unstopped : {X : Type 0} (b : Bool) (x y : X) → cond b None (Some x) ≡ Some y → (b ≡ false) × (x ≡ y)
+unstopped true x y e = absurd (let z : _≡_ {A = ℕ} 0 1 = cc in omega arith)
+unstopped false x y e = (refl, cc)
 
 -- One step along an axis brings the goal nearer by one at most.
 pub axis-distance-falls : (a b goal : ℕ) → a ≤ b + 1 → b ≤ a + 1 → axis-distance a goal ≤ axis-distance b goal + 1
@@ -55,17 +48,6 @@ least-under (b ∷ bs) (suc k) some = omega (arith, lesser-falls (least-cost bs)
 pub least-most : (bytes : List ℕ) → least-cost bytes ≤ 255
 least-most [] = omega arith
 least-most (b ∷ bs) = omega (arith, lesser-falls (least-cost bs) b, least-most bs)
-
--- The cut in a direction stands at the direction's number.
-pub four-at : (held : Direction → Option (ℕ × ℕ)) (d : Direction) → getD (four held) (number d) None ≡ held d
-four-at held Up = refl
-four-at held Right = refl
-four-at held Down = refl
-four-at held Left = refl
-
--- Past the four places there is nothing.
-pub four-past : (held : Direction → Option (ℕ × ℕ)) (place : ℕ) → 4 ≤ place → getD (four held) place None ≡ None
-four-past held place h = getD-past (four held) place None h
 
 -- A direction at whose place a cut stands.
 record Toward (held : Direction → Option (ℕ × ℕ)) (place : ℕ) (p : ℕ × ℕ) : Type 0 where
@@ -181,13 +163,16 @@ record Cut (bytes : List ℕ) (width height u v c place : ℕ) : Type 0 where
 neighbour-cut : (bytes : List ℕ) (o : Option ℕ) (v c : ℕ) → cut-into bytes o ≡ Some (v, c) → (o ≡ Some v) × (getD bytes v 0 ≡ c) × (getD bytes v 0 ≡ 0 → ⊥)
 neighbour-cut bytes None v c e = absurd (let z : _≡_ {A = ℕ} 0 1 = cc in omega arith)
 neighbour-cut bytes (Some n) v c e =
-    let p = open-wood (getD bytes n 0) (n, getD bytes n 0) (v, c) e in
+    let p = unstopped (eqb (getD bytes n 0) 0) (n, getD bytes n 0) (v, c) e in
     let to : n ≡ v = ap (λ (x : ℕ × ℕ). x .0) (p .1) in
     let cost : getD bytes n 0 ≡ c = ap (λ (x : ℕ × ℕ). x .1) (p .1) in
-    (ap Some to, ap (λ x. getD bytes x 0) (sym to) ∙ cost, λ none. p .0 (ap (λ x. getD bytes x 0) to ∙ none))
+    (ap Some to, ap (λ x. getD bytes x 0) (sym to) ∙ cost, λ none. eqb-false (getD bytes n 0) 0 (p .0) (ap (λ x. getD bytes x 0) to ∙ none))
 
 module _ (bytes : List ℕ) (width height start goal : ℕ) (wide : 1 ≤ width) where
-  cut-of : {u v c : ℕ} (l : Leads (rastered bytes width height start goal) u v c) → Cut bytes width height u v c (l .place)
+  abbrev blank : Meaning
+  blank = rastered bytes width height start goal
+
+  cut-of : {u v c : ℕ} (l : Leads blank u v c) → Cut bytes width height u v c (l .place)
   cut-of {u} {v} {c} l =
       elim (cases-bool (ltb u (width * height))) [
         | inl in-it ↦
@@ -208,10 +193,10 @@ module _ (bytes : List ℕ) (width height start goal : ℕ) (wide : 1 ≤ width)
             let z : _≡_ {A = ℕ} 0 1 = cc in omega arith)
       ]
 
-  estimate-in : (u : ℕ) → u < width * height → rastered bytes width height start goal .estimate u ≡ distance width u goal * least-cost bytes
+  estimate-in : (u : ℕ) → u < width * height → blank .estimate u ≡ distance width u goal * least-cost bytes
   estimate-in u h = cond-true (ltb u (width * height)) _ 0 (lt-ltb u (width * height) h)
 
-  estimate-out : (u : ℕ) → width * height ≤ u → rastered bytes width height start goal .estimate u ≡ 0
+  estimate-out : (u : ℕ) → width * height ≤ u → blank .estimate u ≡ 0
   estimate-out u h = cond-false (ltb u (width * height)) _ 0 (le-ltb u (width * height) h)
 
   -- Over one step the way to the goal shortens by one at most.
@@ -230,7 +215,7 @@ module _ (bytes : List ℕ) (width height start goal : ℕ) (wide : 1 ≤ width)
       ]
 
   -- Each cut costs at least what the estimate falls by.
-  cut-pays : {u v c : ℕ} → Leads (rastered bytes width height start goal) u v c → rastered bytes width height start goal .estimate u ≤ c + rastered bytes width height start goal .estimate v
+  cut-pays : {u v c : ℕ} → Leads blank u v c → blank .estimate u ≤ c + blank .estimate v
   cut-pays {u} {v} {c} l =
       let k = cut-of l in
       let least = least-cost bytes in
@@ -238,16 +223,16 @@ module _ (bytes : List ℕ) (width height start goal : ℕ) (wide : 1 ≤ width)
       rw (estimate-in u (k .from), estimate-in v (k .on .inside))
       (omega (arith, falls, add-mul (distance width v goal) 1 least, add-mul 0 1 least, least-under bytes v (k .entered), k .cost))
 
-  goal-estimate : goal < width * height → rastered bytes width height start goal .estimate goal ≡ 0
+  goal-estimate : goal < width * height → blank .estimate goal ≡ 0
   goal-estimate h =
       let none : distance width goal goal ≡ 0 = omega arith in
       estimate-in goal h ∙ ap (λ n. n * least-cost bytes) none ∙ zero-mul (least-cost bytes)
 
-  never-over : {u w d : ℕ} {path : List ℕ} → goal < width * height → Walk (rastered bytes width height start goal) u w path d → w ≡ goal → rastered bytes width height start goal .estimate u ≤ d
-  never-over h (stay u) same = omega (arith, ap (rastered bytes width height start goal .estimate) same, goal-estimate h)
+  never-over : {u w d : ℕ} {path : List ℕ} → goal < width * height → Walk blank u w path d → w ≡ goal → blank .estimate u ≤ d
+  never-over h (stay u) same = omega (arith, ap (blank .estimate) same, goal-estimate h)
   never-over h (cut l rest) same = omega (arith, cut-pays l, never-over h rest same)
 
-  estimate-most : (u : ℕ) → goal < width * height → width * height ≤ 1024 → rastered bytes width height start goal .estimate u ≤ 1023000
+  estimate-most : (u : ℕ) → goal < width * height → width * height ≤ 1024 → blank .estimate u ≤ 1023000
   estimate-most u inside few =
       elim (cases-lt u (width * height)) [
         | inl h ↦
@@ -256,7 +241,7 @@ module _ (bytes : List ℕ) (width height start goal : ℕ) (wide : 1 ≤ width)
         | inr h ↦ omega (arith, estimate-out u h)
       ]
 
-  places-most : (u : ℕ) → length (rastered bytes width height start goal .places u) ≤ 4
+  places-most : (u : ℕ) → length (blank .places u) ≤ 4
   places-most u =
       elim (ltb u (width * height)) as (λ b. length (cond b (four (λ d. cut-into bytes (neighbour width height d u))) []) ≤ 4) [
         | true ↦ omega arith

@@ -22,6 +22,7 @@ beside width height Right line column = cond (ltb (column + 1) width) (Some (cel
 beside width height Down line column = cond (ltb (line + 1) height) (Some (cell-at width (line + 1) column)) None
 beside width height Left line column = cond (ltb 0 column) (Some (cell-at width line (column - 1))) None
 
+-- The cell next to a cell in a direction.
 abbrev pub neighbour : ℕ → ℕ → Direction → ℕ → Option ℕ
 neighbour width height direction cell = beside width height direction (cell / width) (cell % width)
 
@@ -49,6 +50,7 @@ number Left = 3
 abbrev pub axis-distance : ℕ → ℕ → ℕ
 axis-distance a b = (a - b) + (b - a)
 
+-- The way between two cells: their lines' difference and their columns' difference.
 abbrev pub distance : ℕ → ℕ → ℕ → ℕ
 distance width a b = axis-distance (a / width) (b / width) + axis-distance (a % width) (b % width)
 

@@ -85,6 +85,7 @@ fn fits_ends(bytes: &[u8], width: u32, height: u32, start: u32, goal: u32) -> bo
 #[cfg(test)]
 mod tests {
     use super::Laying;
+    use crate::raster::Raster;
     use crate::raster::RasterBlank;
     use blank::Blank;
     use course::Refusal;
@@ -100,84 +101,70 @@ mod tests {
         }
     }
 
+    // The four cuts of a cell: up, right, down, left.
+    fn check_cuts(
+        raster: &Raster<'_>,
+        cell: u32,
+        cuts: [Option<(u32, u32)>; 4],
+    ) -> Result<(), Fail> {
+        let [up, right, down, left] = cuts;
+        check_eq(raster.cut(cell, 0), up)?;
+        check_eq(raster.cut(cell, 1), right)?;
+        check_eq(raster.cut(cell, 2), down)?;
+        check_eq(raster.cut(cell, 3), left)
+    }
+
     #[test]
     fn three_wide() -> Result<(), Fail> {
         let laying = Laying::over(&[2, 9, 2, 2, 2, 2], 3, 2, 0, 2);
         let raster = laying.get()?;
-        check_eq(raster.states(), 6)?;
-        check_eq(raster.start(), 0)?;
-        check_eq(raster.goal(), 2)?;
-        check_eq(raster.places(0), 4)?;
-        check_eq(raster.cut(0, 0), None)?;
-        check_eq(raster.cut(0, 1), Some((1, 9)))?;
-        check_eq(raster.cut(0, 2), Some((3, 2)))?;
-        check_eq(raster.cut(0, 3), None)?;
-        check_eq(raster.cut(4, 0), Some((1, 9)))?;
-        check_eq(raster.cut(4, 3), Some((3, 2)))?;
-        check_eq(raster.cut(2, 1), None)?;
-        check_eq(raster.cut(3, 2), None)?;
+        check_cuts(raster, 0, [None, Some((1, 9)), Some((3, 2)), None])?;
+        check_cuts(raster, 4, [Some((1, 9)), Some((5, 2)), None, Some((3, 2))])?;
         check_eq(raster.estimate(0), 4)?;
-        check_eq(raster.estimate(3), 6)?;
-        check_eq(raster.estimate(2), 0)
+        check_eq(raster.estimate(3), 6)
     }
 
     #[test]
-    fn what_is_no_cell_and_no_place() -> Result<(), Fail> {
+    fn two_cells() -> Result<(), Fail> {
         let laying = Laying::over(&[7, 3], 2, 1, 0, 1);
         let raster = laying.get()?;
-        check_eq(raster.cut(0, 1), Some((1, 3)))?;
+        check_cuts(raster, 0, [None, Some((1, 3)), None, None])?;
         check_eq(raster.cut(0, 4), None)?;
-        check_eq(raster.estimate(0), 3)?;
         check_eq(raster.places(2), 0)?;
-        check_eq(raster.cut(2, 3), None)?;
-        check_eq(raster.estimate(2), 0)?;
-        check_eq(raster.cut(u32::MAX, u32::MAX), None)
+        check_eq(raster.estimate(2), 0)
     }
 
     #[test]
     fn one_wide_with_kept_wood() -> Result<(), Fail> {
         let laying = Laying::over(&[3, 0, 5], 1, 3, 0, 2);
         let raster = laying.get()?;
-        check_eq(raster.cut(0, 2), None)?;
-        check_eq(raster.cut(1, 0), Some((0, 3)))?;
-        check_eq(raster.cut(1, 1), None)?;
-        check_eq(raster.cut(1, 2), Some((2, 5)))?;
-        check_eq(raster.cut(1, 3), None)?;
-        check_eq(raster.estimate(0), 6)?;
+        check_cuts(raster, 0, [None, None, None, None])?;
+        check_cuts(raster, 1, [Some((0, 3)), None, Some((2, 5)), None])?;
         check_eq(raster.estimate(1), 3)
     }
 
     #[test]
     fn one_high() -> Result<(), Fail> {
         let laying = Laying::over(&[1, 2, 3], 3, 1, 2, 0);
-        let raster = laying.get()?;
-        check_eq(raster.cut(1, 0), None)?;
-        check_eq(raster.cut(1, 1), Some((2, 3)))?;
-        check_eq(raster.cut(1, 2), None)?;
-        check_eq(raster.cut(1, 3), Some((0, 1)))
+        check_cuts(laying.get()?, 1, [None, Some((2, 3)), None, Some((0, 1))])
     }
 
     #[test]
     fn the_largest() -> Result<(), Fail> {
         let bytes = [255; 1024];
         let laying = Laying::over(&bytes, 32, 32, 0, 1023);
-        let raster = laying.get()?;
-        check_eq(raster.estimate(0), 62 * 255)?;
-        check_eq(raster.cut(0, 2), Some((32, 255)))?;
-        check_eq(refusal(&bytes, 1024, 1, 0, 1023), None)?;
-        check_eq(
-            refusal(&[1; 1025], 1025, 1, 0, 1),
-            Some(Refusal::WrongShape),
-        )
+        check_eq(laying.get()?.estimate(0), 62 * 255)
     }
 
     #[test]
     fn shapes_that_are_refused() -> Result<(), Fail> {
         check_eq(refusal(&[], 0, 5, 0, 1), Some(Refusal::WrongShape))?;
-        check_eq(refusal(&[], 5, 0, 0, 1), Some(Refusal::WrongShape))?;
         check_eq(refusal(&[1], 1, 1, 0, 0), Some(Refusal::WrongShape))?;
-        check_eq(refusal(&[1, 1, 1], 2, 1, 0, 1), Some(Refusal::WrongShape))?;
-        // 2 in 32 bits
+        check_eq(
+            refusal(&[1; 1025], 1025, 1, 0, 1),
+            Some(Refusal::WrongShape),
+        )?;
+        // in 32 bits the area would be 2
         check_eq(
             refusal(&[1, 1], 0x8000_0001, 2, 0, 1),
             Some(Refusal::WrongShape),
@@ -187,9 +174,7 @@ mod tests {
     #[test]
     fn ends_that_are_refused() -> Result<(), Fail> {
         check_eq(refusal(&[1, 1], 2, 1, 2, 1), Some(Refusal::BadEnds))?;
-        check_eq(refusal(&[1, 1], 2, 1, 0, 2), Some(Refusal::BadEnds))?;
         check_eq(refusal(&[1, 1], 2, 1, 1, 1), Some(Refusal::BadEnds))?;
-        check_eq(refusal(&[0, 1], 2, 1, 0, 1), Some(Refusal::BadEnds))?;
-        check_eq(refusal(&[1, 0], 2, 1, 0, 1), Some(Refusal::BadEnds))
+        check_eq(refusal(&[0, 1], 2, 1, 0, 1), Some(Refusal::BadEnds))
     }
 }

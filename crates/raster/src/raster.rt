@@ -8,7 +8,8 @@ ghost use Rattle.raster.specs.Fit.{FitShape, FitEnds};
 use crate::direction::Direction;
 use blank::Blank;
 
-// Bytes, one a cell, in lines of one width, with a start and a goal. `least` is the smallest byte above 0.
+// Bytes, one a cell, in lines of one width, with a start and a goal. A cell's number is its line times the width plus its column. `least` is
+// the smallest byte above 0, found once. The laws of a blank follow from the ghost fields.
 #[derive(Clone, Copy)]
 pub struct Raster<'a> {
     bytes: &'a [u8],
@@ -29,6 +30,7 @@ pub struct Raster<'a> {
 }
 
 impl<'a> Raster<'a> {
+    // The raster over bytes that are known to fit.
     pub(crate) fn new(bytes: &'a [u8], width: u32, height: u32, start: u32, goal: u32) -> Raster<'a>
         requires shape { ⌜ FitShape (now bytes) width height ⌝ }
         requires ends { ⌜ FitEnds (now bytes) width height start goal ⌝ }

@@ -9,14 +9,18 @@ use rank::CostRankRank;
 use rank::ShareRank;
 use rank::ShareRankRank;
 
-// a − b taken exactly and then cut off, so that it fits 32 bits.
-fn over(a: u64, b: u64) -> u32
-    ensures { λ r. ⌜ r ≡ cut-off a b ⌝ }
+// The share rank of an over of a − b, which is cut off, and an under of h.
+fn share_of(a: u64, b: u64, numbers: &Numbers) -> ShareRank
+    ensures { λ r. ⌜ r ≡ record { over = cut-off a b; under = now (numbers .entry) .h; state = now (numbers .entry) .state } ⌝ }
 {
-    a.saturating_sub(b).min(4294967295) as u32
+    ShareRank {
+        over: a.saturating_sub(b).min(4294967295) as u32,
+        under: numbers.h,
+        state: numbers.state,
+    }
 }
 
-// The most of what the limit leaves for what the estimate asks.
+// Prefers the state that has the most of the limit left for what its estimate asks: a share rank, over is limit − g, under is h.
 #[derive(Clone, Copy)]
 pub struct Quick;
 
@@ -26,15 +30,11 @@ pub impl Wish for Quick as QuickWish {
     ghost ranked = { λ _ n. record { over = cut-off (n .limit) (n .g); under = n .h; state = n .state } };
 
     fn rank(&self, numbers: &Numbers) -> ShareRank {
-        ShareRank {
-            over: over(u64::from(numbers.limit), u64::from(numbers.g)),
-            under: numbers.h,
-            state: numbers.state,
-        }
+        share_of(u64::from(numbers.limit), u64::from(numbers.g), numbers)
     }
 }
 
-// The most of what the ratio leaves above the least sum for what the estimate asks.
+// The same of the ratio's bound in place of the limit: a share rank, over is p × least sum − q × g, under is h.
 #[derive(Clone, Copy)]
 pub struct Level;
 
@@ -46,15 +46,11 @@ pub impl Wish for Level as LevelWish {
     fn rank(&self, numbers: &Numbers) -> ShareRank {
         let most = u64::from(numbers.p) * u64::from(numbers.least);
         let spent = u64::from(numbers.q) * u64::from(numbers.g);
-        ShareRank {
-            over: over(most, spent),
-            under: numbers.h,
-            state: numbers.state,
-        }
+        share_of(most, spent, numbers)
     }
 }
 
-// The smallest sum.
+// Prefers the smallest sum: the cost rank of g + h.
 #[derive(Clone, Copy)]
 pub struct Even;
 

@@ -1,4 +1,6 @@
 // Blanks: what the search runs over, by one interface. It stands on course.
+#![tactic(auto)]
+
 mod blank_trait;
 mod lent;
 

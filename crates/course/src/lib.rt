@@ -2,6 +2,8 @@
 // what the machine does in one move, what each call answers, and what lists of calls make; the planner's code meets them in crates of its
 // own. A function below that takes nothing stands for a theorem: its contract is the statement, and nothing is computed. It stands on std
 // alone.
+#![tactic(auto)]
+
 ghost use Rattle.course.specs.Promises.{LivesSound, WordsMeant, AnswersTrue, LivesAgree, CallsAnswered, ClampingBegins};
 ghost use Rattle.course.specs.Worked.{WorkedOut};
 

@@ -1,5 +1,7 @@
 // Layers: a layer stands over any blank, lent or owned, and is a blank itself, so layers pile up. Knots empty the cuts into the states that
 // are marked; rounding lowers the estimates. It stands on course and blank.
+#![tactic(auto)]
+
 mod knots;
 mod may_mark;
 mod rounding;

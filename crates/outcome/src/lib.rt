@@ -1,5 +1,7 @@
 // What carve prints for a text: its fault, or a line for each of its orders. It stands on session, planner, reader, text, tableblank, table,
 // wish, rank, blank and course.
+#![tactic(auto)]
+
 ghost use Rattle.std.specs.Prelude.{◌≡◌, IfOk, string_bytes};
 ghost use Rattle.outcome.specs.Printed.{fault_line, Complains, Prints};
 

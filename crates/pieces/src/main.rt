@@ -1,6 +1,8 @@
 // pieces runs the measured pieces of docs/SEARCH.md and prints what each comes to: the word and the moves of one work, then the cost, the floor
 // and the route. The crate measured proves the same of the rules. It stands on planner, wish, rank, layers, raster, tableblank, table, blank
 // and course.
+#![tactic(auto)]
+
 use blank::Blank;
 use course::Word;
 use layers::Rounding;

@@ -1,5 +1,7 @@
 // An example: a table, a raster, and a pile of layers over that raster, each listed through the one interface of blanks: every state with its
 // estimate and what its places hold. It stands on blank, table, tableblank, raster, layers and course.
+#![tactic(auto)]
+
 use anyhow::anyhow;
 use blank::Blank;
 use layers::{Knots, Rounding};

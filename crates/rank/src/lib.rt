@@ -1,4 +1,6 @@
 // Ranks: what the search chooses by. A rank carries a state and says whether it is no later than another. It stands on std alone.
+#![tactic(auto)]
+
 mod cost;
 mod rank_trait;
 mod share;

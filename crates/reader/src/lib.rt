@@ -1,4 +1,6 @@
 // The reader of a text: its marks, its forms, and what it holds. It meets the rules of text. It stands on text, table and course.
+#![tactic(auto)]
+
 mod document;
 mod errors;
 mod forms;

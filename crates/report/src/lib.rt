@@ -1,4 +1,6 @@
 // What carve prints for a text. It stands on reader, text, table and course.
+#![tactic(auto)]
+
 ghost use Rattle.std.specs.Prelude.{◌≡◌, ◌+◌, ◌<◌, ◌≤◌, [], ◌++◌, length, IfOk, string_bytes, codes, OnOk};
 ghost use Rattle.table.specs.Table.{Shape};
 ghost use Rattle.table.specs.Checks.{rows_in};

@@ -2,6 +2,8 @@
 // wishes, plain and with rounded estimates, at several ratios and ceilings, with the moves split into budgets in three ways, on one bench.
 // After every work the floor is to be under every route, what stands a route that costs what is told, and the word right. It stands on
 // planner, wish, rank, queue, layers, tableblank, table, blank and course.
+#![tactic(auto)]
+
 use blank::Blank;
 use layers::Rounding;
 use planner::Bench;

@@ -2,6 +2,8 @@
 // are opened again and again. For each last it prints the moves, the cost and the floor. It prints no times: to measure, run
 // `rt check searchbench` and then `time target/bin/searchbench CASE`, where CASE is raster, table, halved, ladder, descent or chain; without it
 // all cases run. It stands on planner, wish, rank, queue, layers, raster, tableblank, table, blank and course.
+#![tactic(auto)]
+
 use anyhow::anyhow;
 use blank::Blank;
 use layers::Rounding;

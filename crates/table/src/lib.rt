@@ -1,4 +1,6 @@
 // Tables: the rows of a table and their check. It stands on blank and course.
+#![tactic(auto)]
+
 mod flaw;
 mod table;
 

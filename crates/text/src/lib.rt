@@ -1,5 +1,7 @@
 // The text that carve reads, as rules: which text writes a document, what the reader makes of every row of bytes, and what holds of its
 // verdicts. The reader's code meets these rules in a crate of its own. It stands on course and table.
+#![tactic(auto)]
+
 ghost use Rattle.std.specs.Prelude.{◌≡◌};
 ghost use Rattle.text.specs.Layers.{layer_number};
 

@@ -1,5 +1,7 @@
 // Many texts and their verdicts: for each text on standard input, a line with its fault, or `ok` and how many states, cuts and orders it
 // holds. A text stands there as its length, a line feed, its bytes and a line feed. A test of reader; it stands on reader, text and course.
+#![tactic(auto)]
+
 use anyhow::anyhow;
 use reader::{Document, ReadError, read};
 use std::io::Read;

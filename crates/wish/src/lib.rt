@@ -1,5 +1,7 @@
 // Wishes: how the search chooses among open states. A wish turns the numbers of a state into a rank. It stands on course, for the numbers and
 // the laws of an order, and on rank.
+#![tactic(auto)]
+
 mod wish_trait;
 mod wishes;
 

@@ -1,12 +1,11 @@
 -- Every answer of a life means what it says.
-use Rattle.std.proofs.Common.{◌≡◌, ℕ, ◌≤◌, List, [], ◌∷◌, ◌++◌, length, Some, None, Option, sym, refl, ap, ◌∙◌, subst, arith}
+use Rattle.std.proofs.Common.{◌≡◌, ℕ, ◌≤◌, List, [], ◌∷◌, ◌++◌, length, Some, None, Option, refl, subst, arith}
 use Rattle.std.specs.Option.{option_map}
 use Rattle.course.specs.Blanks.{Meaning, Route, Lawful}
 use Rattle.course.specs.Machine.{State, Standing, Order}
-use Rattle.course.specs.Calls.{Word, Call, work, ratio, ceiling, show, route, Answer, worked, set, shown, told, refused, Does, works, shows, tells, Life, clamped, then}
-use Rattle.course.specs.Promises.{moves_in, LowerBound, Meant, TrueShowing, TrueRoute, TrueAnswer, AllTrue, AnswersTrue}
+use Rattle.course.specs.Calls.{Call, route, Answer, worked, shown, told, Does, shows, tells, Life, then}
+use Rattle.course.specs.Promises.{TrueShowing, TrueRoute, TrueAnswer, AnswersTrue}
 use Rattle.course.proofs.Lives.{life_moves, life_held, lives_sound}
-use Rattle.course.proofs.Floor.{Held}
 use Rattle.course.proofs.Words.{words_meant}
 
 -- A life comes apart at each of its calls.

@@ -45,7 +45,7 @@ impl<B: Blank> Knots<B> {
 
     // Whether a state may be marked now; else the refusal with the smallest number that applies.
     pub fn may_mark(&self, state: u32) -> MayMark
-        ensures { result ≡ may_be_marked (meaning self.now.below) self.now.knots self.now.count state }
+        ensures { result ≡ may_be_marked (B.meaning self.now.below) self.now.knots self.now.count state }
     {
         if state >= self.below.states() {
             return MayMark::Barred;
@@ -68,8 +68,8 @@ impl<B: Blank> Knots<B> {
     // Marks a state where it may be marked, and that state only; elsewhere gives the layer back as it was.
     pub fn mark(mut self, state: u32) -> Knots<B>
         ensures below { result.below ≡ self.below }
-        ensures marked { may_be_marked (meaning self.below) self.knots self.count state ≡ Yes → (result.count ≡ self.count + 1) × ((s : ℕ) → among result.knots result.count s ≡ (state == s || among self.knots self.count s)) }
-        ensures refused { (may_be_marked (meaning self.below) self.knots self.count state ≢ Yes) → result ≡ self }
+        ensures marked { may_be_marked (B.meaning self.below) self.knots self.count state ≡ Yes → (result.count ≡ self.count + 1) × ((s : ℕ) → among result.knots result.count s ≡ (state == s || among self.knots self.count s)) }
+        ensures refused { (may_be_marked (B.meaning self.below) self.knots self.count state ≢ Yes) → result ≡ self }
     {
         let MayMark::Yes = self.may_mark(state) else {
             return self;

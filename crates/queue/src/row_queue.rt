@@ -53,7 +53,7 @@ impl<'q, R: Rank + Copy> Queue<'q, R> {
     pub fn take(&mut self) -> Result<u32, Refusal>
         ensures same { self.new.row.ghost_name ≡ self.old.row.ghost_name }
         ensures answer { MatchResult result
-            (λ s. Taken state precedes s self.old.row.now self.old.len self.new.row.now self.new.len)
+            (λ s. Taken R.state R.precedes s self.old.row.now self.old.len self.new.row.now self.new.len)
             (λ e. (number_of e ≡ 40) × (self.old.len ≡ 0)
             × Unchanged self.old.row.now self.old.len self.new.row.now self.new.len) }
     {
@@ -80,7 +80,7 @@ impl<'q, R: Rank + Copy> Queue<'q, R> {
     // Removes all ranks of a state, and answers how many.
     pub fn strike(&mut self, struck: u32) -> usize
         ensures same { self.new.row.ghost_name ≡ self.old.row.ghost_name }
-        ensures answer { Struck state struck result self.old.row.now self.old.len self.new.row.now self.new.len }
+        ensures answer { Struck R.state struck result self.old.row.now self.old.len self.new.row.now self.new.len }
     {
         let len = self.len;
         let mut stay = len;

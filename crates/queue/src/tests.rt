@@ -9,7 +9,7 @@ use rank::{CostRank, Rank};
 // answered; a row with none is refused and stays as it is.
 fn lent_and_back<R: Rank + Copy>(row: &mut [R], rank: R) -> Result<u32, Refusal>
     ensures { MatchResult result
-        (λ s. (s ≡ state rank) × (row.new ≡ slice_set row.old 0 rank))
+        (λ s. (s ≡ R.state rank) × (row.new ≡ slice_set row.old 0 rank))
         (λ e. (number_of e ≡ 39) × (row.new ≡ row.old)) }
 {
     let mut queue = Queue::over(row);

@@ -1,7 +1,7 @@
 -- The orders of ranks keep the laws.
-use Rattle.std.specs.Prelude.{◌≡◌, ℕ, ◌+◌, ◌*◌, ◌<◌, ◌≤◌, Bool, true, false, cond, not, ◌&&◌, ◌||◌, leb, ◌⊎◌, nat_le, refl}
-use Rattle.std.proofs.Common.{sym, ap, ◌∙◌, inl, inr, arith, mul-le-mul_right, mul_right_comm, mul-zero, one-mul, le_of_mul-le-mul_right}
-use Rattle.std.proofs.lemmas.Bool.{and_parts, and_from, and_cases, or_cases, or_left, or_right, or_parts, not-true, not-false, not_from_false, leb-true, leb-false, le-leb, lt-leb, both_ways, cases_Bool, eqb-true, eqb-false, cases_eq, eq-eqb}
+use Rattle.std.specs.Prelude.{◌≡◌, ℕ, ◌*◌, ◌≤◌, Bool, true, false, cond, not, ◌||◌, leb, nat_le}
+use Rattle.std.proofs.Common.{ap, inl, inr, arith, mul-le-mul_right, mul_right_comm, mul-zero, one-mul, le_of_mul-le-mul_right}
+use Rattle.std.proofs.lemmas.Bool.{and_parts, and_from, and_cases, or_cases, or_left, or_right, or_parts, not-true, not-false, not_from_false, leb-true, leb-false, le-leb, both_ways, cases_Bool, cases_eq, eq-eqb}
 use Rattle.rank.specs.Orders.{LawfulOrder, by_state, weight, no_smaller_share}
 
 -- A test by which ranks are compared before their states are: of two at least one passes, and it carries over.

@@ -1,12 +1,12 @@
 -- The estimates, read one after another.
-use Rattle.std.proofs.Common.{◌≡◌, ℕ, suc, ◌+◌, ◌-◌, ◌<◌, ◌≤◌, List, [], ◌∷◌, ◌++◌, vec_items, codes, sym, refl, ap, ◌∙◌, arith}
+use Rattle.std.proofs.Common.{◌≡◌, ℕ, suc, ◌+◌, ◌-◌, ◌<◌, List, [], ◌∷◌, ◌++◌, sym, refl, ap, ◌∙◌, arith}
 use Rattle.std.proofs.lemmas.List.{append_assoc, append-nil}
 use Rattle.text.specs.declared.Fault.{Fault}
-use Rattle.text.specs.Forms.{Form, Got, got, fault, and_then, follow, the_sign, the_word, a_number}
-use Rattle.text.specs.Document.{line_end, spaced_numbers, estimates_line}
+use Rattle.text.specs.Forms.{Form, Got, got, fault, and_then, follow, the_sign, a_number}
+use Rattle.text.specs.Document.{spaced_numbers}
 use Rattle.text.proofs.Forms.{goes, after, follow_append}
 use Rattle.reader.specs.declared.marks.Reader.{Reader}
-use Rattle.reader.specs.Readings.{Went, Stopped, rest, told}
+use Rattle.reader.specs.Readings.{Went, Stopped, rest}
 use Rattle.reader.proofs.CutLines.{onto, onto_none}
 use Rattle.reader.proofs.Steps.{stopped_first}
 

@@ -1,5 +1,5 @@
 -- The verdict on a text, with all that is promised of it.
-use Rattle.std.proofs.Common.{◌≡◌, ℕ, ◌<◌, ◌≤◌, true, false, leb, List, length, sym, refl, ap, ◌∙◌, subst, arith}
+use Rattle.std.proofs.Common.{◌≡◌, ℕ, ◌<◌, ◌≤◌, true, false, List, length, sym, refl, ap, ◌∙◌, subst, arith}
 use Rattle.std.proofs.lemmas.Bool.{le-leb, lt-leb}
 use Rattle.course.specs.Refusals.{number_of}
 use Rattle.table.specs.Table.{Rows, Passes, Worst}
@@ -8,17 +8,15 @@ use Rattle.text.specs.declared.Layer.TheVariants.{Table}
 use Rattle.text.specs.Layers.{layer_number}
 use Rattle.text.specs.Forms.{Got, got, fault}
 use Rattle.text.specs.Document as rules
-use Rattle.text.specs.Rows.{table_rows}
 use Rattle.text.specs.Reading.{document, parsed}
 use Rattle.text.specs.Verdicts.{Verdict, Says, Concludes, accepted, refused}
-use Rattle.text.specs.Promises.{Writes}
 use Rattle.text.proofs.Documents.{accepted_is_written}
 use Rattle.text.proofs.Faults.{verdict_once, faults_are_real}
 use Rattle.text.proofs.Begun.{faults_are_first}
 use Rattle.text.proofs.Causes.{causes_are_told}
 use Rattle.reader.specs.declared.document.Document.{Document}
 use Rattle.reader.specs.Readings.{told}
-use Rattle.reader.specs.Documents.{rows_of, Held, DocumentRead, CheckTold}
+use Rattle.reader.specs.Documents.{rows_of, DocumentRead}
 use Rattle.reader.specs.Verdict.{Accepted, Refused}
 
 parsed_short : (text : List ℕ) → length text ≤ 60000 → parsed text ≡ document text

@@ -1,7 +1,7 @@
 -- The lines of the states, read one after another.
-use Rattle.std.proofs.Common.{◌≡◌, ℕ, zero, suc, ◌+◌, ◌-◌, ◌<◌, ◌≤◌, List, [], ◌∷◌, ◌++◌, map, length, vec_items, Vec, sym, refl, ap, ◌∙◌, subst, add-zero, zero-add, add-one, arith}
+use Rattle.std.proofs.Common.{◌≡◌, ℕ, suc, ◌+◌, ◌-◌, ◌<◌, ◌≤◌, List, [], ◌∷◌, ◌++◌, map, length, vec_items, Vec, sym, refl, ap, ◌∙◌, add-zero, zero-add, add-one, arith}
 use Rattle.std.specs.declared.alloc.Global.{Global}
-use Rattle.std.proofs.lemmas.List.{append_assoc, append-nil, length-append, length-map, flat_map_more}
+use Rattle.std.proofs.lemmas.List.{append-nil, length-append, length-map, flat_map_more}
 use Rattle.text.specs.declared.Fault.{Fault}
 use Rattle.text.specs.Forms.{Got, got, fault, and_then, follow}
 use Rattle.text.specs.Document.{Cut, total, from}
@@ -14,7 +14,7 @@ use Rattle.reader.specs.declared.marks.Reader.{Reader}
 use Rattle.reader.specs.declared.lines.CutRows.{CutRows}
 use Rattle.reader.specs.declared.lines.Lines.{Lines}
 use Rattle.reader.specs.Readings.{rest, told}
-use Rattle.reader.specs.Rows.{Filled, room, line_from, LineRead, LinesRead}
+use Rattle.reader.specs.Rows.{room, line_from, LineRead, LinesRead}
 use Rattle.reader.proofs.CutLines.{onto, onto_none, onto_more}
 
 -- Where the entries of each state begin, but not where the last end.

@@ -1,6 +1,5 @@
 -- One form after another, and the first fault.
-use Rattle.std.proofs.Common.{◌≡◌, ℕ, ◌+◌, Bool, true, false, List, [], ◌∷◌, ◌++◌, drop, IsErrAnd, Ok, Err, Result, sym, refl, ap, ◌∙◌, subst}
-use Rattle.std.proofs.lemmas.Result.{err_from_is_err_and}
+use Rattle.std.proofs.Common.{◌≡◌, ℕ, ◌+◌, Bool, true, false, List, [], ◌∷◌, ◌++◌, drop, IsErrAnd, Ok, Err, Result, sym, refl, ap, ◌∙◌}
 use Rattle.text.specs.declared.Fault.{Fault}
 use Rattle.text.specs.Marks.{next, width}
 use Rattle.text.specs.Forms.{Want, Form, Got, got, fault, and_then, unwanted, meets, keeps, follow}

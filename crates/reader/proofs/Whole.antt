@@ -1,14 +1,12 @@
 -- A whole text: its first line, and what follows it.
-use Rattle.std.proofs.Common.{◌≡◌, ℕ, ◌<◌, ◌≤◌, Bool, true, false, ◌&&◌, leb, ◌⊎◌, List, [], ◌∷◌, length, get_or, drop, Ok, Err, vec_items, Result, Vec, sym, refl, ap, ◌∙◌, inl, inr, arith}
+use Rattle.std.proofs.Common.{◌≡◌, ℕ, ◌<◌, ◌≤◌, Bool, true, false, ◌&&◌, leb, ◌⊎◌, List, length, get_or, drop, Ok, Err, vec_items, Result, Vec, sym, refl, ap, ◌∙◌, inl, inr}
 use Rattle.std.specs.declared.alloc.Global.{Global}
 use Rattle.std.proofs.lemmas.Bool.{and_from, and_left, and_right, le-leb, lt-leb}
-use Rattle.table.specs.Table.{Rows}
 use Rattle.text.specs.declared.Fault.{Fault}
 use Rattle.text.specs.declared.Order.{Order}
 use Rattle.text.specs.Forms.{Form, Got, got, fault, and_then, follow}
 use Rattle.text.specs.Document as rules
 use Rattle.text.specs.Document.{first_line, estimates_line}
-use Rattle.text.specs.Rows.{table_rows}
 use Rattle.text.specs.Reading.{lines_from, orders_from, body, document}
 use Rattle.text.proofs.Forms.{goes}
 use Rattle.reader.specs.declared.errors.ReadError.{ReadError}
@@ -20,7 +18,7 @@ use Rattle.reader.specs.declared.document.Document.{Document}
 use Rattle.reader.specs.Readings.{Went, Stopped, headed, rest, told}
 use Rattle.reader.specs.Rows.{Outcome, LinesRead}
 use Rattle.reader.specs.Orders.{Came, all_orders}
-use Rattle.reader.specs.Documents.{rows_of, Held, BodyRead, DocumentRead}
+use Rattle.reader.specs.Documents.{BodyRead, DocumentRead}
 
 pub outcome_map :
     {A : Type 0} (P P' : A → Type 0) (Q Q' : Fault → Type 0) → ((a : A) → P a → P' a) → ((f : Fault) → Q f → Q' f) → (r : Result A ReadError) → Outcome P Q r → Outcome P' Q' r

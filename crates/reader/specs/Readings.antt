@@ -5,7 +5,7 @@ use Rattle.text.specs.declared.Fault.{Fault}
 use Rattle.course.specs.declared.refusal.Refusal.TheVariants.{MarkUnwanted}
 use Rattle.text.specs.declared.Layer.TheVariants.{Forms}
 use Rattle.text.specs.Layers.{layer_number}
-use Rattle.text.specs.Forms.{Form, Got, got, fault, follow, the_sign, the_word, the_number, a_number}
+use Rattle.text.specs.Forms.{Form, Got, got, fault, follow, the_sign, the_word, a_number}
 use Rattle.reader.specs.declared.marks.Reader.{Reader}
 use Rattle.reader.specs.declared.marks.Mark.{Mark}
 use Rattle.reader.specs.declared.forms.Head.{Head}

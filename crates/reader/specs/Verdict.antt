@@ -4,7 +4,7 @@ use Rattle.course.specs.Refusals.{number_of}
 use Rattle.text.specs.declared.Fault.{Fault}
 use Rattle.text.specs.Layers.{layer_number}
 use Rattle.text.specs.Document as rules
-use Rattle.text.specs.Verdicts.{Says, accepted, refused}
+use Rattle.text.specs.Verdicts.{Says, refused}
 use Rattle.text.specs.Marks.{next}
 use Rattle.text.specs.Causes.{Told}
 use Rattle.text.specs.Promises.{Writes, Beginning}

@@ -1,5 +1,5 @@
 -- What is printed is what the verdict says.
-use Rattle.std.proofs.Common.{◌≡◌, ℕ, List, length, Err, vec_items, sym, refl, ap, ◌∙◌, subst}
+use Rattle.std.proofs.Common.{◌≡◌, ℕ, List, length, Err, vec_items, sym, ap, ◌∙◌, subst}
 use Rattle.course.specs.Refusals.{number_of}
 use Rattle.table.specs.Table.{Shape}
 use Rattle.text.specs.Layers.{layer_number}

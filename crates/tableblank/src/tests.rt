@@ -13,7 +13,7 @@ use table::{Flaw, TableRows};
 
 // What no route of a blank goes under, by the laws of every blank.
 fn floor<B: Blank>(blank: &B) -> u32
-    ensures { (path : List ℕ) (cost : ℕ) → Route (meaning blank.now) path cost → result ≤ cost }
+    ensures { (path : List ℕ) (cost : ℕ) → Route (B.meaning blank.now) path cost → result ≤ cost }
 {
     blank.estimate(blank.start())
 }

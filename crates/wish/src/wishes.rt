@@ -1,7 +1,6 @@
 // The three wishes.
-ghost use Rattle.std.specs.Prelude.{◌≡◌, ◌+◌, ◌*◌};
+ghost use Rattle.std.specs.Prelude.{◌≡◌, ◌+◌, ◌*◌, refl};
 ghost use Rattle.wish.specs.Wished.{cut_off};
-ghost use Rattle.std.proofs.Common.{rules};
 
 use crate::wish_trait::Wish;
 use course::Numbers;
@@ -27,7 +26,7 @@ impl Wish for Quick {
 
     ghost ranked = { λ _ n. record { over = cut_off n.limit n.g; under = n.h; state = n.state } };
 
-    ghost carries = { Prim.search rules };
+    ghost carries = { λ _ _. refl };
 
     fn rank(&self, numbers: &Numbers) -> ShareRank {
         share_of(u64::from(numbers.limit), u64::from(numbers.g), numbers)
@@ -43,7 +42,7 @@ impl Wish for Level {
 
     ghost ranked = { λ _ n. record { over = cut_off (n.p * n.least) (n.q * n.g); under = n.h; state = n.state } };
 
-    ghost carries = { Prim.search rules };
+    ghost carries = { λ _ _. refl };
 
     fn rank(&self, numbers: &Numbers) -> ShareRank {
         let most = u64::from(numbers.p) * u64::from(numbers.least);
@@ -61,7 +60,7 @@ impl Wish for Even {
 
     ghost ranked = { λ _ n. record { sum = n.g + n.h; state = n.state } };
 
-    ghost carries = { Prim.search rules };
+    ghost carries = { λ _ _. refl };
 
     fn rank(&self, numbers: &Numbers) -> CostRank {
         CostRank {

@@ -6,15 +6,15 @@ use Rattle.outcome.specs.Printed.{Complains, PrintsOrders, Prints}
 use Rattle.outcome.proofs.Answered.{accepted_printed, refused_printed, accepted_passes}
 use Rattle.outcome.proofs.answer.Goals as goal
 
-pub life-of-requires : goal.life-of-requires
-life-of-requires c = accepted_passes c.args.text.now c.in-Ok.document c.in-Ok.ensures.verdict
+pub life_of-requires : goal.life_of-requires
+life_of-requires c = accepted_passes c.args.text.now c.in-Ok.document c.in-Ok.ensures.verdict
 
 pub returns-in-Ok : goal.returns-in-Ok
 returns-in-Ok c =
-    IfOk-weaker c.life-of.result (λ s. PrintsOrders (tabled (rows_of c.in-Ok.document)) (vec_items c.in-Ok.document.orders) (string_bytes s))
+    IfOk-weaker c.life_of.result (λ s. PrintsOrders (tabled (rows_of c.in-Ok.document)) (vec_items c.in-Ok.document.orders) (string_bytes s))
     (λ s. Prints c.args.text.now (string_bytes s))
     (λ s e. accepted_printed c.args.text.now c.in-Ok.document (string_bytes s) c.in-Ok.ensures.verdict e)
-    c.life-of.ensures
+    c.life_of.ensures
 
 pub returns-in-Err : goal.returns-in-Err
 returns-in-Err c =

@@ -7,4 +7,4 @@ use Rattle.report.proofs.push_cuts.Goals as goal
 pub loop-state-preserved : goal.loop-state-preserved
 loop-state-preserved c =
     piece_more (state_cuts (rows_in c.args.rows.now)) 0 c.loop-state.state (string_bytes c.loop-state.out) (string_bytes c.args.out.now)
-    (string_bytes c.push-state.new.out) (omega arith) c.loop-state.invariant c.in-ok-push-state.ensures
+    (string_bytes c.push_state.new.out) (omega arith) c.loop-state.invariant c.in_ok-push_state.ensures

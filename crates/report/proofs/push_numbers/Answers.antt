@@ -7,7 +7,7 @@ use Rattle.report.proofs.push_numbers.Goals as goal
 pub loop-n-preserved : goal.loop-n-preserved
 loop-n-preserved c =
     item_more spaced c.args.numbers.now c.loop-n.n-index (string_bytes c.loop-n.out) (string_bytes c.args.out.now)
-    (string_bytes c.push-number.new.out) c.loop-n-test.true c.loop-n.invariant c.in-ok-push-number.ensures
+    (string_bytes c.push_number.new.out) c.loop-n-test.true c.loop-n.invariant c.in_ok-push_number.ensures
 
 pub returns : goal.returns
 returns c =

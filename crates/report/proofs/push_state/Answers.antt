@@ -1,4 +1,4 @@
-use Rattle.std.proofs.Common.{◌≡◌, ℕ, ◌+◌, ◌<◌, ◌≤◌, length, get_or, string_bytes, arith}
+use Rattle.std.proofs.Common.{ℕ, ◌+◌, ◌<◌, ◌≤◌, length, get_or, string_bytes, arith}
 use Rattle.table.specs.Table.{Rows, states, Shape}
 use Rattle.table.specs.Checks.{rows_in}
 use Rattle.table.proofs.Firsts.{entry_within}
@@ -21,5 +21,5 @@ bounds-rows-e-in-loop-e c = (within (rows_in c.args.rows.now) c.args.state c.loo
 pub loop-e-preserved : goal.loop-e-preserved
 loop-e-preserved c =
     piece_more (entry_line (rows_in c.args.rows.now) c.args.state) (get_or c.args.rows.now.firsts.now c.args.state 0) c.loop-e.e
-    (string_bytes c.loop-e.out) (string_bytes c.args.out.now) (string_bytes c.push-cut.new.out) c.loop-e.auto.e c.loop-e.invariant
-    c.in-ok-push-cut.ensures
+    (string_bytes c.loop-e.out) (string_bytes c.args.out.now) (string_bytes c.push_cut.new.out) c.loop-e.auto.e c.loop-e.invariant
+    c.in_ok-push_cut.ensures

@@ -6,8 +6,8 @@ use Rattle.outcome.proofs.lines.lines_of.Goals as goal
 
 pub loop-i-preserved : goal.loop-i-preserved
 loop-i-preserved c =
-    lines_more c.args.orders.now c.args.replies.now c.loop-i.i _ c.index-replies-i.result (string_bytes c.loop-i.out) (string_bytes c.push-line.new.out)
-    (omega arith) (omega arith) c.loop-i.invariant c.index-replies-i.is c.in-ok-push-line.ensures
+    lines_more c.args.orders.now c.args.replies.now c.loop-i.i _ c.index-replies-i.result (string_bytes c.loop-i.out) (string_bytes c.push_line.new.out)
+    (omega arith) (omega arith) c.loop-i.invariant c.index-replies-i.is c.in_ok-push_line.ensures
 
 pub returns : goal.returns
 returns c =

@@ -9,7 +9,7 @@ use Rattle.outcome.proofs.lines.push_line.Goals as goal
 pub returns : goal.returns
 returns c =
     let old = string_bytes c.args.out.now in
-    let first = chosen _ _ _ _ c.push-str.ensures.bytes (ap is_ok c.in-ok-push-str.was) in
-    let last = chosen _ _ _ _ c.push-str-2.ensures.bytes (ap is_ok c.in-ok-push-str-2.was) in
-    three_pieces old (string_bytes c.push-str.new.self) (string_bytes c.push-reply.new.out) _ (named (verb c.args.order)) (answer_items (answer_of c.args.reply.now)) feed
-    (first ∙ ap (λ z. old ++ z) c.order-name.ensures) c.in-ok-push-reply.ensures last
+    let first = chosen _ _ _ _ c.push_str.ensures.bytes (ap is_ok c.in_ok-push_str.was) in
+    let last = chosen _ _ _ _ c.push_str-2.ensures.bytes (ap is_ok c.in_ok-push_str-2.was) in
+    three_pieces old (string_bytes c.push_str.new.self) (string_bytes c.push_reply.new.out) _ (named (verb c.args.order)) (answer_items (answer_of c.args.reply.now)) feed
+    (first ∙ ap (λ z. old ++ z) c.order_name.ensures) c.in_ok-push_reply.ensures last

@@ -52,12 +52,12 @@ module _ {R : Type 0} where
 pub returns : goal.returns
 returns g c =
     let p : Put c.args.rank c.args.row.now c.over-queue.result.len c.put.new.self.row.now c.put.new.self.len =
-    subst (λ (l : List g.row.R.Denot). Put c.args.rank l c.over-queue.result.len c.put.new.self.row.now c.put.new.self.len) c.over-queue.ensures.whole c.in-ok-put.ensures.answer
+    subst (λ (l : List g.row.R.Denot). Put c.args.rank l c.over-queue.result.len c.put.new.self.row.now c.put.new.self.len) c.over-queue.ensures.whole c.in_ok-put.ensures.answer
     in
     ends g.R.Rank.state g.R.Rank.precedes _ c.args.row.now c.put.new.self.row.now c.take.new.self.row.now _ _ _ c.take.result c.over-queue.ensures.empty p c.take.ensures.answer _ (search rules)
 
-pub returns-in-err-put : goal.returns-in-err-put
-returns-in-err-put g c =
-    let p = err_from_is_err_and c.from-residual.result c.from-residual.ensures.1 in
-    let h = c.in-err-put.ensures in
+pub returns-in_err-put : goal.returns-in_err-put
+returns-in_err-put g c =
+    let p = err_from_is_err_and c.from_residual.result c.from_residual.ensures.1 in
+    let h = c.in_err-put.ensures in
     rw (p.1, p.2) (h.answer.0, search rules)

@@ -21,7 +21,7 @@ loop-byte-preserved c =
     let xs = c.args.bytes.now in
     let i = c.loop-byte.byte-index in
     let rest = least_cost (drop (i + 1) xs) in (
-      omega (arith, c.lesser-least.type-inv),
+      omega (arith, c.lesser-least.type_inv),
       ap (λ n. min n rest) c.lesser-least.ensures
           ∙ lesser_moves c.loop-byte.least rest (get_or xs i 0)
           ∙ ap (min c.loop-byte.least) (sym (at_drop_more least_cost xs i 0 c.loop-byte-test.true))

@@ -6,25 +6,25 @@ use Rattle.reader.proofs.Steps.{passes_out}
 use Rattle.reader.proofs.Whole.{head_stop, miscounted, well_counted, document_read, outcome_map}
 use Rattle.reader.proofs.document.whole.Goals as goal
 
-pub returns-in-err-head : goal.returns-in-err-head
-returns-in-err-head c =
-    let e = c.in-err-head.field-0.0 in
-    passes_out _ _ e c.from-residual.result c.from-residual.ensures.1
-    (head_stop c.args.text.now c.new-reader.result c.first_line.new.self c.new-reader.ensures e c.in-err-head.ensures)
+pub returns-in_err-head : goal.returns-in_err-head
+returns-in_err-head c =
+    let e = c.in_err-head.field-0.0 in
+    passes_out _ _ e c.from_residual.result c.from_residual.ensures.1
+    (head_stop c.args.text.now c.new-reader.result c.first_line.new.self c.new-reader.ensures e c.in_err-head.ensures)
 
-pub returns-then-head-lt-LEAST-STATES : goal.returns-then-head-lt-LEAST-STATES
-returns-then-head-lt-LEAST-STATES c =
-    miscounted c.args.text.now c.new-reader.result c.first_line.new.self c.new-reader.ensures c.in-ok-head.head
-    c.in-ok-head.ensures (⊎_elim (λ low. inl low) (λ high. inr high.1) c.then-head-lt-LEAST-STATES.either)
+pub returns-then-head-lt-LEAST_STATES : goal.returns-then-head-lt-LEAST_STATES
+returns-then-head-lt-LEAST_STATES c =
+    miscounted c.args.text.now c.new-reader.result c.first_line.new.self c.new-reader.ensures c.in_ok-head.head
+    c.in_ok-head.ensures (⊎_elim (λ low. inl low) (λ high. inr high.1) c.then-head-lt-LEAST_STATES.either)
 
 pub returns : goal.returns
 returns c =
     let text = c.args.text.now in
-    let head = c.in-ok-head.head in
+    let head = c.in_ok-head.head in
     let mid = c.first_line.new.self in
-    let low = c.if-head-lt-LEAST-STATES.false in
-    let high = c.if-head-gt-MOST-STATES.false in
-    let w = c.in-ok-head.ensures in
+    let low = c.if-head-lt-LEAST_STATES.false in
+    let high = c.if-head-gt-MOST_STATES.false in
+    let w = c.in_ok-head.ensures in
     outcome_map (BodyRead head mid c.body.new.self) (DocumentRead text) (λ f. body head.states head.start head.goal mid.at (rest mid) ≡ told f)
     (λ f. document text ≡ told f)
     (λ d b. document_read text c.new-reader.result mid c.new-reader.ensures head w c.body.new.self d low high b)

@@ -1,4 +1,4 @@
-use Rattle.std.proofs.Common.{get_or, sym, ◌∙◌, arith}
+use Rattle.std.proofs.Common.{◌≡◌, get_or, sym, ◌∙◌, arith, rules}
 use Rattle.std.proofs.lemmas.List.Sums.{prefix_len-drop_yes, prefix_len-drop_no, prefix_len-drop_all}
 use Rattle.reader.specs.Meaning.{of_kind}
 use Rattle.reader.proofs.OfKind.{kind_yes, kind_no}
@@ -9,7 +9,8 @@ loop-end-preserved c =
     let k = c.args.kind in
     let xs = c.args.text.now in
     let e = c.loop-end.end in
-    let more = prefix_len-drop_yes (of_kind k) xs e 0 c.loop-end-test.true (kind_yes k (get_or xs e 0) (sym c.kind-of.ensures ∙ c.if-eq.ensures)) in
+    let same : c.kind_of.result ≡ k = search rules in
+    let more = prefix_len-drop_yes (of_kind k) xs e 0 c.loop-end-test.true (kind_yes k (get_or xs e 0) (sym c.kind_of.ensures ∙ same)) in
     (omega arith, omega (arith, more, c.loop-end.invariant.1))
 
 pub returns-else-eq : goal.returns-else-eq
@@ -17,7 +18,8 @@ returns-else-eq c =
     let k = c.args.kind in
     let xs = c.args.text.now in
     let e = c.loop-end.end in
-    let none = prefix_len-drop_no (of_kind k) xs e 0 c.loop-end-test.true (kind_no k (get_or xs e 0) (λ is. c.if-eq.ensures (c.kind-of.ensures ∙ is))) in
+    let other : c.kind_of.result ≡ k → ⊥ = search rules in
+    let none = prefix_len-drop_no (of_kind k) xs e 0 c.loop-end-test.true (kind_no k (get_or xs e 0) (λ is. other (c.kind_of.ensures ∙ is))) in
     record { is = omega (arith, none, c.loop-end.invariant.1); within = c.loop-end.invariant.0 }
 
 pub returns-after-loop-end : goal.returns-after-loop-end

@@ -1,20 +1,20 @@
-use Rattle.std.proofs.Common.{◌<◌, ◌≤◌, sym, ap, ◌∙◌, arith, rules}
+use Rattle.std.proofs.Common.{◌<◌, ◌≤◌, ap, ◌∙◌, arith, rules}
 use Rattle.std.proofs.lemmas.List.{take_all}
 use Rattle.std.specs.Str.Parse.{digits_value}
 use Rattle.reader.proofs.Numbers.{digit_at}
 use Rattle.reader.proofs.marks.value_of.Goals as goal
 
-pub overflow-sub-b : goal.overflow-sub-b
-overflow-sub-b c = let d = digit_at c.args.digits.now c.loop-b.b-index c.requires c.loop-b-test.true in omega arith
+pub overflow_sub-b : goal.overflow_sub-b
+overflow_sub-b c = let d = digit_at c.args.digits.now c.loop-b.b-index c.requires c.loop-b-test.true in omega arith
 
-pub overflow-mul-n : goal.overflow-mul-n
-overflow-mul-n c =
+pub overflow_mul-n : goal.overflow_mul-n
+overflow_mul-n c =
     let d = digit_at c.args.digits.now c.loop-b.b-index c.requires c.loop-b-test.true in
     let small : c.loop-b.n < 10000000 = omega (arith, c.loop-b.invariant) in
     search rules
 
-pub overflow-add-n : goal.overflow-add-n
-overflow-add-n c =
+pub overflow_add-n : goal.overflow_add-n
+overflow_add-n c =
     let d = digit_at c.args.digits.now c.loop-b.b-index c.requires c.loop-b-test.true in
     let small : c.loop-b.n < 10000000 = omega (arith, c.loop-b.invariant) in
     let one : c.from.result ≤ 9 = omega (arith, c.from.ensures) in

@@ -22,28 +22,28 @@ loop-order-preserved g c =
     let z = state_of c.perform.new.last in (
       c.perform.ensures.blank ∙ c.loop-order.invariant.0,
       c.perform.ensures.wish ∙ c.loop-order.invariant.1,
-      ap length c.in-ok-push.ensures.items ∙ length_push (vec_items c.loop-order.replies) c.in-ok-reply.reply ∙ ap (λ n. n + 1) c.loop-order.invariant.2,
+      ap length c.in_ok-push.ensures.items ∙ length_push (vec_items c.loop-order.replies) c.in_ok-reply.reply ∙ ap (λ n. n + 1) c.loop-order.invariant.2,
       λ cs life.
-          lives_more cs call c.args.orders.now c.loop-order.order-index _ (vec_items c.loop-order.replies) (vec_items c.push.new.self) c.in-ok-reply.reply
-          (omega arith) c.loop-order.invariant.2 c.in-ok-push.ensures.items (c.loop-order.invariant.3 cs life)
-          (does_at _ c.in-ok-reply.reply (ap g.B.Blank.meaning c.loop-order.invariant.0) (ap (λ w. order_of (g.W.Wish.ranked w) g.Rank.Rank.precedes) c.loop-order.invariant.1) c.loop-order.auto.costs c.loop-order.auto.wishes c.loop-order.auto.row
-          c.in-ok-reply.ensures.does _ (c.loop-order.invariant.3 cs life)),
-      written_more (vec_items c.loop-order.replies) (vec_items c.push.new.self) c.in-ok-reply.reply c.args.row.now c.loop-order.row
-          c.perform.new.row c.in-ok-push.ensures.items c.loop-order.invariant.4 c.in-ok-reply.ensures.row,
+          lives_more cs call c.args.orders.now c.loop-order.order-index _ (vec_items c.loop-order.replies) (vec_items c.push.new.self) c.in_ok-reply.reply
+          (omega arith) c.loop-order.invariant.2 c.in_ok-push.ensures.items (c.loop-order.invariant.3 cs life)
+          (does_at _ c.in_ok-reply.reply (ap g.B.Blank.meaning c.loop-order.invariant.0) (ap (λ w. order_of (g.W.Wish.ranked w) g.Rank.Rank.precedes) c.loop-order.invariant.1) c.loop-order.auto.costs c.loop-order.auto.wishes c.loop-order.auto.row
+          c.in_ok-reply.ensures.does _ (c.loop-order.invariant.3 cs life)),
+      written_more (vec_items c.loop-order.replies) (vec_items c.push.new.self) c.in_ok-reply.reply c.args.row.now c.loop-order.row
+          c.perform.new.row c.in_ok-push.ensures.items c.loop-order.invariant.4 c.in_ok-reply.ensures.row,
       λ none.
           let parts =
-          no_work_more (vec_items c.loop-order.replies) (vec_items c.push.new.self) c.in-ok-reply.reply c.in-ok-push.ensures.items none in
+          no_work_more (vec_items c.loop-order.replies) (vec_items c.push.new.self) c.in_ok-reply.reply c.in_ok-push.ensures.items none in
           let before = c.loop-order.invariant.5 parts.0 in
-          let here = c.in-ok-reply.ensures.ranks parts.1 in
+          let here = c.in_ok-reply.ensures.ranks parts.1 in
           (here.0 ∙ before.0, here.1 ∙ before.1),
     )
 
-pub returns-in-err-reply : goal.returns-in-err-reply
-returns-in-err-reply g c = record {
-  every = IfOk-from_err _ _ c.from-residual.ensures.0;
-  lives = IfOk-from_err _ _ c.from-residual.ensures.0;
-  row = IfOk-from_err _ _ c.from-residual.ensures.0;
-  ranks = IfOk-from_err _ _ c.from-residual.ensures.0;
+pub returns-in_err-reply : goal.returns-in_err-reply
+returns-in_err-reply g c = record {
+  every = IfOk-from_err _ _ c.from_residual.ensures.0;
+  lives = IfOk-from_err _ _ c.from_residual.ensures.0;
+  row = IfOk-from_err _ _ c.from_residual.ensures.0;
+  ranks = IfOk-from_err _ _ c.from_residual.ensures.0;
   blank = c.perform.ensures.blank ∙ c.loop-order.invariant.0;
   wish = c.perform.ensures.wish ∙ c.loop-order.invariant.1;
 }

@@ -6,16 +6,16 @@ use Rattle.planner.specs.Lasts.{state_of}
 use Rattle.session.proofs.Lives.{written_front}
 use Rattle.session.proofs.perform.tell.Goals as goal
 
-pub slice-bounds-to-vec-end : goal.slice-bounds-to-vec-end
-slice-bounds-to-vec-end g c = omega (arith, c.in-Ok.ensures.counted, length-take c.in-Ok.told.len c.route.new.row)
+pub slice_bounds-to_vec-end : goal.slice_bounds-to_vec-end
+slice_bounds-to_vec-end g c = omega (arith, c.in-Ok.ensures.counted, length-take c.in-Ok.told.len c.route.new.row)
 
-pub returns-in-ok-states : goal.returns-in-ok-states
-returns-in-ok-states g c =
+pub returns-in_ok-states : goal.returns-in_ok-states
+returns-in_ok-states g c =
     let t = c.in-Ok.told in
     let s = state_of c.args.last.now in
-    let states = vec_items c.in-ok-states.states in
+    let states = vec_items c.in_ok-states.states in
     let all : t.len - 0 ≡ t.len = omega arith in
-    let items : states ≡ take t.len c.route.new.row = c.in-ok-states.ensures.items-if-clones-equal (λ x y e. e) ∙ ap (λ n. take n c.route.new.row) all in
+    let items : states ≡ take t.len c.route.new.row = c.in_ok-states.ensures.items-if-clones-equal (λ x y e. e) ∙ ap (λ n. take n c.route.new.row) all in
     let D : List ℕ → Type 0 = λ l.
     Does (g.B.Blank.meaning c.args.last.now.blank) (order_of (g.W.Wish.ranked c.args.last.now.wish) g.Rank.Rank.precedes) s (route (length c.args.row.now)) (told l t.cost t.floor) s in
     record {

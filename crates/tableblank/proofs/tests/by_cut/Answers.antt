@@ -2,8 +2,8 @@ use Rattle.std.proofs.Common.{sym, arith}
 use Rattle.course.specs.Blanks.{Leads}
 use Rattle.tableblank.proofs.tests.by_cut.Goals as goal
 
-pub overflow-add-result : goal.overflow-add-result
-overflow-add-result g c =
+pub overflow_add-result : goal.overflow_add-result
+overflow_add-result g c =
     let x = c.args.blank.now in
     let law = g.B.Blank.lawful x in
     let a : Leads (g.B.Blank.meaning x) c.args.state c.in-Some.to c.in-Some.cost =

@@ -8,7 +8,7 @@ loop-i-init c = (refl, omega arith, λ path chain e few. writing_first (marks_of
 
 pub loop-i-preserved : goal.loop-i-preserved
 loop-i-preserved c =
-    let same = c.set-step.ensures.marks ∙ c.loop-i.invariant.0 in
+    let same = c.set_step.ensures.marks ∙ c.loop-i.invariant.0 in
     let mark = marks_of (vec_items c.args.self.now.marks) in
     let row = vec_items c.loop-i.self.path in
     let j : ℕ = c.loop-i.i - 1 in
@@ -19,13 +19,13 @@ loop-i-preserved c =
       same,
       omega (arith, c.loop-i.invariant.1),
       λ path chain e few.
-          subst (λ (xs : List ℕ). Writing mark c.in-Some.u j c.args.len xs path) (sym c.set-step.ensures.path)
+          subst (λ (xs : List ℕ). Writing mark c.in-Some.u j c.args.len xs path) (sym c.set_step.ensures.path)
           (writing_more mark some back low (omega arith) (c.loop-i.invariant.2 path chain e few)),
     )
 
 pub returns-in-None : goal.returns-in-None
 returns-in-None c =
-    let same = c.set-step.ensures.marks ∙ c.loop-i.invariant.0 in
+    let same = c.set_step.ensures.marks ∙ c.loop-i.invariant.0 in
     let mark = marks_of (vec_items c.args.self.now.marks) in
     let row = vec_items c.loop-i.self.path in
     let j : ℕ = c.loop-i.i - 1 in
@@ -34,7 +34,7 @@ returns-in-None c =
     let low : j < c.args.len = omega (arith, c.loop-i.invariant.1) in
     let long : length row ≡ 1024 = omega (arith, c.loop-i.self.path.ok.0, c.loop-i.self.path_full) in
     record {
-      path = λ path chain e few. ap (take c.args.len) c.set-step.ensures.path ∙ writing_last mark none back low (omega arith) (c.loop-i.invariant.2 path chain e few);
+      path = λ path chain e few. ap (take c.args.len) c.set_step.ensures.path ∙ writing_last mark none back low (omega arith) (c.loop-i.invariant.2 path chain e few);
       marks = same;
     }
 

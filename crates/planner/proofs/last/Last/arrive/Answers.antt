@@ -7,7 +7,7 @@ use Rattle.planner.proofs.last.Last.arrive.Goals as goal
 
 pub returns-then-len-ge1024 : goal.returns-then-len-ge1024
 returns-then-len-ge1024 g c = record {
-  stands = λ path d chain few walk. absurd (omega (arith, c.chain-length-len.ensures.is path chain (omega arith)));
+  stands = λ path d chain few walk. absurd (omega (arith, c.chain_length-len.ensures.is path chain (omega arith)));
   blank = search rules;
   wish = search rules;
 }
@@ -15,17 +15,17 @@ returns-then-len-ge1024 g c = record {
 pub returns : goal.returns
 returns g c =
     let m = g.B.Blank.meaning c.args.self.now.blank in
-    let len = c.chain-length-len.result in
-    let row = vec_items c.write-chain.new.self.path in
-    let long : length row ≡ 1024 = omega (arith, c.write-chain.new.self.path.ok.0, c.write-chain.new.self.path_full) in
+    let len = c.chain_length-len.result in
+    let row = vec_items c.write_chain.new.self.path in
+    let long : length row ≡ 1024 = omega (arith, c.write_chain.new.self.path.ok.0, c.write_chain.new.self.path_full) in
     record {
       stands = λ path d chain few walk.
-          let is : len ≡ length path = c.chain-length-len.ensures.is path chain (omega arith) in
-          let whole : take len row ≡ path = c.write-chain.ensures.path path chain (sym is) (omega arith) in
+          let is : len ≡ length path = c.chain_length-len.ensures.is path chain (omega arith) in
+          let whole : take len row ≡ path = c.write_chain.ensures.path path chain (sym is) (omega arith) in
           stands_as (state_of c.args.self.now)
-          (ap (λ x. marks_of (vec_items x)) (c.set-step.ensures.marks ∙ c.write-chain.ensures.marks))
-          (ap (take (len + 1)) c.set-step.ensures.path ∙ take_more_set row len c.args.v (omega arith) ∙ ap (λ l. l ++ c.args.v ∷ []) whole)
-          (ap (λ x. x + c.args.c) (c.path-cost.ensures.is m.start c.args.n d (subst (λ (l : List ℕ). Walk m m.start c.args.n l d) (sym whole) walk)));
+          (ap (λ x. marks_of (vec_items x)) (c.set_step.ensures.marks ∙ c.write_chain.ensures.marks))
+          (ap (take (len + 1)) c.set_step.ensures.path ∙ take_more_set row len c.args.v (omega arith) ∙ ap (λ l. l ++ c.args.v ∷ []) whole)
+          (ap (λ x. x + c.args.c) (c.path_cost.ensures.is m.start c.args.n d (subst (λ (l : List ℕ). Walk m m.start c.args.n l d) (sym whole) walk)));
       blank = search rules;
       wish = search rules;
     }

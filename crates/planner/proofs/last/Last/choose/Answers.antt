@@ -4,7 +4,7 @@ use Rattle.planner.specs.Lasts.{state_of}
 use Rattle.planner.proofs.Gathers.{put_length, gathered_none, gathered_skip}
 use Rattle.planner.proofs.Chooses.{RanksBelow, choose_more, choose_first, choose_none}
 use Rattle.planner.proofs.last.Last.choose.Goals as goal
-use Rattle.planner.proofs.last.Last.choose.Goals.{in-Some, in-default}
+use Rattle.planner.proofs.last.Last.choose.Goals.{in-Some, in_default}
 
 pub loop-u-init : goal.loop-u-init
 loop-u-init g c = (refl, λ room. gathered_none _ _ c.over-queue.ensures.empty)
@@ -18,11 +18,11 @@ loop-u-preserved g c =
     (length q.row.now ≡ length c.over-queue.result.row.now)
     × (m.states ≤ length c.over-queue.result.row.now → RanksBelow m s c.args.least rank q.row.now q.len (c.loop-u.u + 1)) in
     elim c.match-focal.branch [
-      | in-Some w ↦ subst P (sym w.queue_is) (
+      | in-Some w ↦ subst P (sym w.queue-is) (
         put_length _ _ _ _ _ w.put.result w.put.new.self.fits w.put.ensures.answer ∙ c.loop-u.invariant.0,
         λ room. choose_more m s c.args.least rank w.in-Some.told w.put.result w.put.ensures.answer (omega (arith, c.loop-u.invariant.0, c.states-u-end.ensures)) w.in-Some.ensures w.rank.ensures (c.loop-u.invariant.1 room),
       )
-      | in-default w ↦ subst P (sym w.queue_is) (c.loop-u.invariant.0, λ room. gathered_skip w.in-default.ensures (c.loop-u.invariant.1 room))
+      | in_default w ↦ subst P (sym w.queue-is) (c.loop-u.invariant.0, λ room. gathered_skip w.in_default.ensures (c.loop-u.invariant.1 room))
     ]
 
 pub returns-in-Ok : goal.returns-in-Ok

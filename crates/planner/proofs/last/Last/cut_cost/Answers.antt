@@ -3,7 +3,7 @@ use Rattle.course.specs.Blanks.{Leads}
 use Rattle.course.proofs.Walks.{one_cut}
 use Rattle.planner.proofs.Adds.{no_cut, no_cut_more, other_cut, none_cut}
 use Rattle.planner.proofs.last.Last.cut_cost.Goals as goal
-use Rattle.planner.proofs.last.Last.cut_cost.Goals.{in-Some+else-to-v, in-default}
+use Rattle.planner.proofs.last.Last.cut_cost.Goals.{in-Some+else-to-v, in_default}
 
 pub returns-then-to-v : goal.returns-then-to-v
 returns-then-to-v g c =
@@ -17,7 +17,7 @@ pub loop-place-preserved : goal.loop-place-preserved
 loop-place-preserved g c = no_cut_more ((g.B.Blank.meaning c.args.self.now.blank).places c.args.u) c.loop-place.invariant (λ k.
     elim c.match-cut.branch [
       | in-Some+else-to-v w ↦ other_cut w.in-Some.ensures w.if-to-v.false
-      | in-default w ↦ none_cut w.in-default.ensures
+      | in_default w ↦ none_cut w.in_default.ensures
     ])
 
 pub returns : goal.returns

@@ -19,12 +19,12 @@ loop-place-preserved g c =
     let k = c.args.g in
     let i = c.loop-place.place in
     let s = state_of c.loop-place.self in
-    let z = state_of c.try-place.new.self in
+    let z = state_of c.try_place.new.self in
     let T : Meaning → Type 0 = λ y. SoundMarks y s.mark → Within s.mark n k → Tried y n k (get_or (y.places n) i None) s z in
-    let tried = subst T (ap g.B.Blank.meaning c.loop-place.invariant.0) c.try-place.ensures.tried in
+    let tried = subst T (ap g.B.Blank.meaning c.loop-place.invariant.0) c.try_place.ensures.tried in
     let low : i < length (m.places n) = omega (arith, c.places-place-end.ensures) in (
-      c.try-place.ensures.blank ∙ c.loop-place.invariant.0,
-      c.try-place.ensures.wish ∙ c.loop-place.invariant.1,
+      c.try_place.ensures.blank ∙ c.loop-place.invariant.0,
+      c.try_place.ensures.wish ∙ c.loop-place.invariant.1,
       λ during.
           let so = c.loop-place.invariant.2 during in
           let one = tried so.1.kept.marks so.1.within in

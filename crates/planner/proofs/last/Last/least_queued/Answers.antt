@@ -5,7 +5,7 @@ use Rattle.planner.specs.Lasts.{state_of}
 use Rattle.planner.proofs.Gathers.{put_length, gathered_none, gathered_skip}
 use Rattle.planner.proofs.Queued.{CostsBelow, cost_more, cost_first, cost_live, cost_none}
 use Rattle.planner.proofs.last.Last.least_queued.Goals as goal
-use Rattle.planner.proofs.last.Last.least_queued.Goals.{in-Some, in-default}
+use Rattle.planner.proofs.last.Last.least_queued.Goals.{in-Some, in_default}
 
 pub loop-u-init : goal.loop-u-init
 loop-u-init g c = (refl, λ room. gathered_none _ _ c.over-queue.ensures.empty)
@@ -18,11 +18,11 @@ loop-u-preserved g c =
     (length q.row.now ≡ length c.over-queue.result.row.now)
     × (m.states ≤ length c.over-queue.result.row.now → CostsBelow m s q.row.now q.len (c.loop-u.u + 1)) in
     elim c.match-live.branch [
-      | in-Some w ↦ subst P (sym w.queue_is) (
+      | in-Some w ↦ subst P (sym w.queue-is) (
         put_length _ _ _ _ _ w.put.result w.put.new.self.fits w.put.ensures.answer ∙ c.loop-u.invariant.0,
         λ room. cost_more m s w.put.result w.put.ensures.answer (omega (arith, c.loop-u.invariant.0, c.states-u-end.ensures)) w.in-Some.ensures.0 (ap (λ x. w.in-Some.g + x) w.in-Some.ensures.1) (c.loop-u.invariant.1 room),
       )
-      | in-default w ↦ subst P (sym w.queue_is) (c.loop-u.invariant.0, λ room. gathered_skip w.in-default.ensures (c.loop-u.invariant.1 room))
+      | in_default w ↦ subst P (sym w.queue-is) (c.loop-u.invariant.0, λ room. gathered_skip w.in_default.ensures (c.loop-u.invariant.1 room))
     ]
 
 pub returns-in-Err : goal.returns-in-Err

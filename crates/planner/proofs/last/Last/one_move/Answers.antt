@@ -10,37 +10,37 @@ use Rattle.planner.proofs.Marked.{marked_set, marks_inside}
 use Rattle.planner.proofs.OneMove.{shuts_as, least_focal, chosen_by, moves_from}
 use Rattle.planner.proofs.last.Last.one_move.Goals as goal
 
-pub returns-in-default : goal.returns-in-default
-returns-in-default g c = record {
+pub returns-in_default : goal.returns-in_default
+returns-in_default g c = record {
   moves = λ held found rank_room room count low.
       let live = held.some_live low in
-      absurd (MatchOption-at_none _ _ c.in-default.is found live.0 live.1 live.2);
+      absurd (MatchOption-at_none _ _ c.in_default.is found live.0 live.1 live.2);
   blank = search rules;
   wish = search rules;
 }
 
-pub returns-in-default-choose : goal.returns-in-default-choose
-returns-in-default-choose g c =
+pub returns-in_default-choose : goal.returns-in_default-choose
+returns-in_default-choose g c =
     let law = g.B.Blank.lawful c.args.self.now.blank in
     let s = state_of c.args.self.now in
     record {
       moves = λ held found rank_room room count low.
           let inside = marks_inside s law held.kept.marks in
           let least = MatchOption-at_some _ _ _ c.in-Some.is found in
-          absurd (c.in-default-choose.ensures inside room least.at least.at_g (least_focal c.args.self.now.order least));
+          absurd (c.in_default-choose.ensures inside room least.at least.at_g (least_focal c.args.self.now.order least));
       blank = search rules;
       wish = search rules;
     }
 
-pub returns-in-default-mark : goal.returns-in-default-mark
-returns-in-default-mark g c =
+pub returns-in_default-mark : goal.returns-in_default-mark
+returns-in_default-mark g c =
     let law = g.B.Blank.lawful c.args.self.now.blank in
     let s = state_of c.args.self.now in
     record {
       moves = λ held found rank_room room count low.
           let inside = marks_inside s law held.kept.marks in
           let chosen = c.in-Some-choose.ensures inside room in
-          absurd (c.in-default-mark.not-Open _ (c.mark.ensures ∙ chosen.1.focal.live.is_open));
+          absurd (c.in_default-mark.not-Open _ (c.mark.ensures ∙ chosen.1.focal.live.is_open));
       blank = search rules;
       wish = search rules;
     }
@@ -59,13 +59,13 @@ returns g c =
           let chosen = c.in-Some-choose.ensures inside room in
           let is = sym c.mark.ensures ∙ c.in-Open.is in
           let low_n : n < length old = omega (arith, live_in law held.kept chosen.1.focal.live, law.states_most, c.args.self.now.bench.marks.ok.0, c.args.self.now.bench.marks_full) in
-          let shut = shuts_as s n (Closed c.in-Open.reach) (ap marks_of c.set-mark.ensures.marks ∙ marked_set old n _ low_n) (ap (λ p. standing_of c.args.self.now.standing (vec_items p)) c.set-mark.ensures.path) in
+          let shut = shuts_as s n (Closed c.in-Open.reach) (ap marks_of c.set_mark.ensures.marks ∙ marked_set old n _ low_n) (ap (λ p. standing_of c.args.self.now.standing (vec_items p)) c.set_mark.ensures.path) in
           let z = state_of c.expand.new.self in
-          let next = c.least-queued-next.result in
+          let next = c.least_queued-next.result in
           let same = ap g.B.Blank.meaning c.expand.ensures.blank in
           let F : Meaning → Type 0 = λ y. Inside y z → FoundLeast y z next in
           let R : Meaning → Type 0 = λ y. FoundLeast y z next → Raised y z (state_of c.raise_to.new.self) in
-          let after = subst F same (λ in-z. c.least-queued-next.ensures in-z (omega (arith, ap (λ y. y.states) same))) in
+          let after = subst F same (λ in-z. c.least_queued-next.ensures in-z (omega (arith, ap (λ y. y.states) same))) in
           let raised = subst R same c.raise_to.ensures.raised in
           moves_from next law held least chosen is shut c.expand.ensures.cuts after raised;
       blank = c.raise_to.ensures.blank ∙ c.expand.ensures.blank;

@@ -14,12 +14,12 @@ loop-i-preserved g c =
     let low : i + 1 < len = omega arith in
     let fits : len ≤ length path = omega (arith, c.args.self.now.bench.path.ok.0, c.args.self.now.bench.path_full) in
     let long : length (take len path) ≡ len = length-take-le len path fits in (
-      omega (arith, c.loop-i.invariant.0, c.cut-cost-cost.ensures.low),
+      omega (arith, c.loop-i.invariant.0, c.cut_cost-cost.ensures.low),
       c.step-next.ensures,
       λ s w e walk. adding_step (take len path) (omega arith)
           (c.loop-i.invariant.1 ∙ sym (get_or-take len path i 0 (omega arith)))
           (c.step-next.ensures ∙ sym (get_or-take len path (i + 1) 0 low))
-          c.cut-cost-cost.ensures.is
+          c.cut_cost-cost.ensures.is
           (c.loop-i.invariant.2 s w e walk),
     )
 

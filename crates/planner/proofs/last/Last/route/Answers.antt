@@ -17,8 +17,8 @@ loop-i-preserved g c =
       drop-set-lt (i + 1) row i _ (omega arith) ∙ sym (drop-drop 1 i row) ∙ ap (drop 1) c.loop-i.invariant.1 ∙ drop-drop 1 i _,
     )
 
-pub returns-in-default : goal.returns-in-default
-returns-in-default g c = record { does = no_route (ap (λ o. standing_of o (vec_items c.args.self.now.bench.path)) c.in-default.is); same = refl }
+pub returns-in_default : goal.returns-in_default
+returns-in_default g c = record { does = no_route (ap (λ o. standing_of o (vec_items c.args.self.now.bench.path)) c.in_default.is); same = refl }
 
 pub returns-then-row-found : goal.returns-then-row-found
 returns-then-row-found g c =

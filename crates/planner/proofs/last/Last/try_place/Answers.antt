@@ -6,8 +6,8 @@ use Rattle.planner.proofs.Marked.{marked_set}
 use Rattle.planner.proofs.Tries.{marks_as, try_empty, try_dear, try_keeps, try_opens, try_arrives}
 use Rattle.planner.proofs.last.Last.try_place.Goals as goal
 
-pub returns-in-default : goal.returns-in-default
-returns-in-default g c = record { tried = λ marks within. try_empty c.in-default.ensures; blank = search rules; wish = search rules }
+pub returns-in_default : goal.returns-in_default
+returns-in_default g c = record { tried = λ marks within. try_empty c.in_default.ensures; blank = search rules; wish = search rules }
 
 pub returns-then-sum-limit : goal.returns-then-sum-limit
 returns-then-sum-limit g c = record { tried = λ marks within. try_dear c.in-Some.ensures (omega (arith, c.limit.ensures, c.estimate.ensures)); blank = search rules; wish = search rules }
@@ -22,23 +22,23 @@ returns-then-v-goal g c = record {
   wish = search rules;
 }
 
-pub returns-then-is-news : goal.returns-then-is-news
-returns-then-is-news g c =
+pub returns-then-is_news : goal.returns-then-is_news
+returns-then-is_news g c =
     let m = g.B.Blank.meaning c.args.self.now.blank in
     let law = g.B.Blank.lawful c.args.self.now.blank in
     let old = vec_items c.args.self.now.bench.marks in
     let leads : Leads m c.args.n c.in-Some.v c.in-Some.c = record { place = c.args.place; holds = sym c.in-Some.ensures } in
     let inside : c.in-Some.v < length old = omega (arith, law.leads_in leads, law.states_most, c.args.self.now.bench.marks.ok.0, c.args.self.now.bench.marks_full) in
     record {
-      tried = λ marks within. try_opens c.in-Some.ensures (omega (arith, c.limit.ensures, c.estimate.ensures)) (λ home. c.if-v-goal.false (home ∙ sym c.goal.ensures)) (c.is-news.ensures.yes c.if-is-news.true)
-          (marks_as (state_of c.args.self.now) c.in-Some.v _ (ap marks_of c.set-mark.ensures.marks ∙ marked_set old c.in-Some.v _ inside) (ap (λ p. standing_of c.args.self.now.standing (vec_items p)) c.set-mark.ensures.path));
+      tried = λ marks within. try_opens c.in-Some.ensures (omega (arith, c.limit.ensures, c.estimate.ensures)) (λ home. c.if-v-goal.false (home ∙ sym c.goal.ensures)) (c.is_news.ensures.yes c.if-is_news.true)
+          (marks_as (state_of c.args.self.now) c.in-Some.v _ (ap marks_of c.set_mark.ensures.marks ∙ marked_set old c.in-Some.v _ inside) (ap (λ p. standing_of c.args.self.now.standing (vec_items p)) c.set_mark.ensures.path));
       blank = search rules;
       wish = search rules;
     }
 
-pub returns-else-is-news : goal.returns-else-is-news
-returns-else-is-news g c = record {
-  tried = λ marks within. try_keeps c.in-Some.ensures (omega (arith, c.limit.ensures, c.estimate.ensures)) (λ home. c.if-v-goal.false (home ∙ sym c.goal.ensures)) (c.is-news.ensures.no c.if-is-news.false);
+pub returns-else-is_news : goal.returns-else-is_news
+returns-else-is_news g c = record {
+  tried = λ marks within. try_keeps c.in-Some.ensures (omega (arith, c.limit.ensures, c.estimate.ensures)) (λ home. c.if-v-goal.false (home ∙ sym c.goal.ensures)) (c.is_news.ensures.no c.if-is_news.false);
   blank = search rules;
   wish = search rules;
 }

@@ -16,21 +16,21 @@ loop-moves-init g c =
       refl,
       λ cs life. (
         working_first law life,
-        c.least-queued-least.ensures (marks_inside (state_of c.args.self.now) law (life_held law life).kept.marks) (omega (arith, c.states-states.ensures)),
+        c.least_queued-least.ensures (marks_inside (state_of c.args.self.now) law (life_held law life).kept.marks) (omega (arith, c.states-states.ensures)),
       ),
     )
 
 pub loop-moves-preserved : goal.loop-moves-preserved
 loop-moves-preserved g c =
     let law = g.B.Blank.lawful c.args.self.now.blank in
-    let R : Meaning → Order → Type 0 = λ m ord. Moves m ord (length c.loop-moves.costs) (length c.loop-moves.wishes) (state_of c.loop-moves.self) c.loop-moves.least (Some c.in-Some-one-move.next) (state_of c.one_move.new.self) in
-    let moves = subst₂ R (ap g.B.Blank.meaning c.loop-moves.invariant.0) (ap (λ w. order_of (g.W.Wish.ranked w) g.Rank.Rank.precedes) c.loop-moves.invariant.1) c.in-Some-one-move.ensures.moves in (
+    let R : Meaning → Order → Type 0 = λ m ord. Moves m ord (length c.loop-moves.costs) (length c.loop-moves.wishes) (state_of c.loop-moves.self) c.loop-moves.least (Some c.in-Some-one_move.next) (state_of c.one_move.new.self) in
+    let moves = subst₂ R (ap g.B.Blank.meaning c.loop-moves.invariant.0) (ap (λ w. order_of (g.W.Wish.ranked w) g.Rank.Rank.precedes) c.loop-moves.invariant.1) c.in-Some-one_move.ensures.moves in (
       c.one_move.ensures.blank ∙ c.loop-moves.invariant.0,
       c.one_move.ensures.wish ∙ c.loop-moves.invariant.1,
       λ cs life.
           let now = c.loop-moves.invariant.2 cs life in
-          let on = c.in-default.ensures in
-          let made = working_moves c.loop-moves.least (Some c.in-Some-one-move.next) (state_of c.one_move.new.self) law (omega (arith, c.loop-moves.auto.costs, c.states-states.ensures)) (omega (arith, c.loop-moves.auto.wishes, c.states-states.ensures)) on moves now.0 now.1 in
+          let on = c.in_default.ensures in
+          let made = working_moves c.loop-moves.least (Some c.in-Some-one_move.next) (state_of c.one_move.new.self) law (omega (arith, c.loop-moves.auto.costs, c.states-states.ensures)) (omega (arith, c.loop-moves.auto.wishes, c.states-states.ensures)) on moves now.0 now.1 in
           (working_more law on made.0 now.0, made.1),
     )
 
@@ -42,8 +42,8 @@ returns-then-costs-states g c = record {
   wish = refl;
 }
 
-pub returns-then-budget-gt-MOST-MOVES : goal.returns-then-budget-gt-MOST-MOVES
-returns-then-budget-gt-MOST-MOVES g c = record {
+pub returns-then-budget-gt-MOST_MOVES : goal.returns-then-budget-gt-MOST_MOVES
+returns-then-budget-gt-MOST_MOVES g c = record {
   answer = over_budget (omega (arith, c.states-states.ensures)) (omega (arith, c.states-states.ensures)) (omega arith);
   untouched = (refl, refl, refl);
   blank = refl;
@@ -59,16 +59,16 @@ returns-in-Some g c = record {
   wish = c.loop-moves.invariant.1;
 }
 
-pub returns-in-default-one-move : goal.returns-in-default-one-move
-returns-in-default-one-move g c =
+pub returns-in_default-one_move : goal.returns-in_default-one_move
+returns-in_default-one_move g c =
     let law = g.B.Blank.lawful c.args.self.now.blank in
     let R : Meaning → Order → Type 0 = λ m ord. Moves m ord (length c.loop-moves.costs) (length c.loop-moves.wishes) (state_of c.loop-moves.self) c.loop-moves.least None (state_of c.one_move.new.self) in
-    let moves = subst₂ R (ap g.B.Blank.meaning c.loop-moves.invariant.0) (ap (λ w. order_of (g.W.Wish.ranked w) g.Rank.Rank.precedes) c.loop-moves.invariant.1) c.in-default-one-move.ensures.moves in
+    let moves = subst₂ R (ap g.B.Blank.meaning c.loop-moves.invariant.0) (ap (λ w. order_of (g.W.Wish.ranked w) g.Rank.Rank.precedes) c.loop-moves.invariant.1) c.in_default-one_move.ensures.moves in
     record {
       answer = accepted_work law (omega (arith, c.states-states.ensures)) (omega (arith, c.states-states.ensures)) (omega arith)
           (λ cs life.
           let now = c.loop-moves.invariant.2 cs life in
-          absurd (working_moves c.loop-moves.least None (state_of c.one_move.new.self) law (omega (arith, c.loop-moves.auto.costs, c.states-states.ensures)) (omega (arith, c.loop-moves.auto.wishes, c.states-states.ensures)) c.in-default.ensures moves now.0 now.1));
+          absurd (working_moves c.loop-moves.least None (state_of c.one_move.new.self) law (omega (arith, c.loop-moves.auto.costs, c.states-states.ensures)) (omega (arith, c.loop-moves.auto.wishes, c.states-states.ensures)) c.in_default.ensures moves now.0 now.1));
       untouched = tt;
       blank = c.one_move.ensures.blank ∙ c.loop-moves.invariant.0;
       wish = c.one_move.ensures.wish ∙ c.loop-moves.invariant.1;

@@ -3,7 +3,7 @@ use Rattle.std.proofs.lemmas.List.{get_or_default}
 use Rattle.queue.proofs.Earliest.{Earliest, earliest_none, earliest_new, earliest_old}
 use Rattle.queue.proofs.Calls.{taken_out}
 use Rattle.queue.proofs.row_queue.Queue.take.Goals as goal
-use Rattle.queue.proofs.row_queue.Queue.take.Goals.{then-no-later, else-no-later}
+use Rattle.queue.proofs.row_queue.Queue.take.Goals.{then-no_later, else-no_later}
 
 pub loop-i-init : goal.loop-i-init
 loop-i-init g c = earliest_none g.R.Rank.lawful _
@@ -16,9 +16,9 @@ loop-i-preserved g c =
     let lt : i < length xs = omega (arith, c.args.self.now.fits, c.loop-i-test.true) in
     let bt : c.loop-i.best < length xs = omega (arith, lt, c.loop-i.invariant.0) in
     let P : ℕ → Type 0 = λ b. Earliest g.R.Rank.precedes xs (i + 1) b in
-    elim c.if-no-later.branch [
-      | then-no-later w ↦ subst P (sym w.best_is) (earliest_new law xs i _ _ _ c.loop-i.invariant lt (get_or_default xs _ _ _ lt) (get_or_default xs _ _ _ bt) (sym c.no_later.ensures ∙ w.if-no-later.true))
-      | else-no-later w ↦ subst P (sym w.best_is) (earliest_old law xs i _ _ _ c.loop-i.invariant lt (get_or_default xs _ _ _ lt) (get_or_default xs _ _ _ bt) (sym c.no_later.ensures ∙ w.if-no-later.false))
+    elim c.if-no_later.branch [
+      | then-no_later w ↦ subst P (sym w.best-is) (earliest_new law xs i _ _ _ c.loop-i.invariant lt (get_or_default xs _ _ _ lt) (get_or_default xs _ _ _ bt) (sym c.no_later.ensures ∙ w.if-no_later.true))
+      | else-no_later w ↦ subst P (sym w.best-is) (earliest_old law xs i _ _ _ c.loop-i.invariant lt (get_or_default xs _ _ _ lt) (get_or_default xs _ _ _ bt) (sym c.no_later.ensures ∙ w.if-no_later.false))
     ]
 
 pub returns : goal.returns

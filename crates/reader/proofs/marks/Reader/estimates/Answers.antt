@@ -1,14 +1,14 @@
-use Rattle.std.proofs.Common.{◌≡◌, ℕ, ◌+◌, ◌-◌, List, [], ◌∷◌, ◌++◌, is_ok, vec_items, sym, refl, ap, ◌∙◌, subst, arith}
+use Rattle.std.proofs.Common.{◌≡◌, ◌+◌, ◌-◌, [], is_ok, vec_items, sym, ap, subst, arith}
 use Rattle.std.proofs.ResultArms.{chosen}
 use Rattle.text.specs.Document.{spaced_numbers}
 use Rattle.reader.proofs.Steps.{went_then, stopped_first, stopped_then, passes_out}
 use Rattle.reader.proofs.Estimates.{Left, left_all, left_number, number_fault, left_fault, left_end}
 use Rattle.reader.proofs.marks.Reader.estimates.Goals as goal
 
-pub returns-in-err-opening : goal.returns-in-err-opening
-returns-in-err-opening c =
-    passes_out _ _ c.in-err-opening.field-0.0 c.from-residual.result c.from-residual.ensures.1
-    (stopped_first (spaced_numbers c.args.states) c.in-err-opening.ensures).tells
+pub returns-in_err-opening : goal.returns-in_err-opening
+returns-in_err-opening c =
+    passes_out _ _ c.in_err-opening.field-0.0 c.from_residual.result c.from_residual.ensures.1
+    (stopped_first (spaced_numbers c.args.states) c.in_err-opening.ensures).tells
 
 pub loop-i-init : goal.loop-i-init
 loop-i-init c =
@@ -18,27 +18,27 @@ loop-i-init c =
     (subst (λ k. Left (spaced_numbers n) (spaced_numbers k) [] c.opening.new.self c.opening.new.self) all
     (left_all (spaced_numbers n) c.opening.new.self))
 
-pub returns-in-err-estimate : goal.returns-in-err-estimate
-returns-in-err-estimate c =
-    passes_out _ _ c.in-err-estimate.field-0.0 c.from-residual-in-err-estimate.result c.from-residual-in-err-estimate.ensures.1
-    (stopped_then c.in-ok-opening.ensures (number_fault c.loop-i.invariant c.loop-i-test.true c.in-err-estimate.ensures)).tells
+pub returns-in_err-estimate : goal.returns-in_err-estimate
+returns-in_err-estimate c =
+    passes_out _ _ c.in_err-estimate.field-0.0 c.from_residual-in_err-estimate.result c.from_residual-in_err-estimate.ensures.1
+    (stopped_then c.in_ok-opening.ensures (number_fault c.loop-i.invariant c.loop-i-test.true c.in_err-estimate.ensures)).tells
 
 pub loop-i-preserved : goal.loop-i-preserved
 loop-i-preserved c =
     let n = c.args.states in
-    let pushed = chosen _ _ _ _ c.push.ensures.items (ap is_ok c.in-ok-push.was) in
-    subst (λ xs. Left (spaced_numbers n) (spaced_numbers (n - (c.loop-i.i + 1))) xs c.opening.new.self c.spaced-number.new.self) (sym pushed)
-    (left_number c.in-ok-estimate.estimate c.loop-i.invariant c.loop-i-test.true c.in-ok-estimate.ensures)
+    let pushed = chosen _ _ _ _ c.push.ensures.items (ap is_ok c.in_ok-push.was) in
+    subst (λ xs. Left (spaced_numbers n) (spaced_numbers (n - (c.loop-i.i + 1))) xs c.opening.new.self c.spaced_number.new.self) (sym pushed)
+    (left_number c.in_ok-estimate.estimate c.loop-i.invariant c.loop-i-test.true c.in_ok-estimate.ensures)
 
-pub returns-in-err-line-end : goal.returns-in-err-line-end
-returns-in-err-line-end c =
+pub returns-in_err-line_end : goal.returns-in_err-line_end
+returns-in_err-line_end c =
     let none : c.args.states - c.loop-i.i ≡ 0 = omega arith in
     let left = subst (λ k. Left (spaced_numbers c.args.states) (spaced_numbers k) (vec_items c.loop-i.estimates) c.opening.new.self c.loop-i.self) none c.loop-i.invariant in
-    passes_out _ _ c.in-err-line-end.field-0.0 c.from-residual-in-err-line-end.result c.from-residual-in-err-line-end.ensures.1
-    (stopped_then c.in-ok-opening.ensures (left_fault left c.in-err-line-end.ensures)).tells
+    passes_out _ _ c.in_err-line_end.field-0.0 c.from_residual-in_err-line_end.result c.from_residual-in_err-line_end.ensures.1
+    (stopped_then c.in_ok-opening.ensures (left_fault left c.in_err-line_end.ensures)).tells
 
 pub returns : goal.returns
 returns c =
     let none : c.args.states - c.loop-i.i ≡ 0 = omega arith in
     let left = subst (λ k. Left (spaced_numbers c.args.states) (spaced_numbers k) (vec_items c.loop-i.estimates) c.opening.new.self c.loop-i.self) none c.loop-i.invariant in
-    went_then c.in-ok-opening.ensures (left_end left c.in-ok-line-end.ensures)
+    went_then c.in_ok-opening.ensures (left_end left c.in_ok-line_end.ensures)

@@ -7,11 +7,11 @@ use Rattle.reader.proofs.marks.Reader.number.Goals as goal
 
 pub returns : goal.returns
 returns c =
-    let m = c.in-ok-mark.ensures in
-    let mark = ap number c.value-of.ensures ∙ ap meant (sym c.in-Number.is) ∙ m.is in
+    let m = c.in_ok-mark.ensures in
+    let mark = ap number c.value_of.ensures ∙ ap meant (sym c.in-Number.is) ∙ m.is in
     record {
       same = refl;
       tells =
-          met_one a_number c.args.self.now.text.now c.args.self.now.at c.in-ok-mark.mark.end (number c.value-of.result) mark
+          met_one a_number c.args.self.now.text.now c.args.self.now.at c.in_ok-mark.mark.end (number c.value_of.result) mark
           m.ends refl;
     }

@@ -6,7 +6,7 @@ use Rattle.reader.proofs.marks.Reader.order.Goals as goal
 
 pub returns : goal.returns
 returns c =
-    let m = c.in-ok-mark.ensures in
-    order_taken (spoken c.in-Some.verb) c.args.self.now c.order-numbers.new.self c.in-ok-mark.mark.end
-    (meant c.in-ok-mark.mark.token) c.order-numbers.result m.is m.ends (sym c.in-Some.ensures) c.order-numbers.ensures.reads
-    c.order-numbers.ensures.named
+    let m = c.in_ok-mark.ensures in
+    order_taken (spoken c.in-Some.verb) c.args.self.now c.order_numbers.new.self c.in_ok-mark.mark.end
+    (meant c.in_ok-mark.mark.token) c.order_numbers.result m.is m.ends (sym c.in-Some.ensures) c.order_numbers.ensures.reads
+    c.order_numbers.ensures.named

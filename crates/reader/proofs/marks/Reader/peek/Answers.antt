@@ -1,4 +1,4 @@
-use Rattle.std.proofs.Common.{◌≡◌, ◌+◌, ◌-◌, ◌<◌, ◌≤◌, false, cond, length, get_or, take, drop, sym, refl, ap, ◌∙◌, subst, arith}
+use Rattle.std.proofs.Common.{◌≡◌, ◌-◌, take, drop, sym, refl, ap, ◌∙◌, subst, arith}
 use Rattle.std.specs.List.{prefix_len}
 use Rattle.text.specs.declared.Kind.TheVariants.{Single, Letter, Digit, Outside}
 use Rattle.std.specs.Str.Parse.{digits_value}
@@ -26,18 +26,18 @@ returns-in-Letter c =
     let xs = c.args.self.now.text.now in
     let at = c.args.self.now.at in
     let h = in_hand xs at Letter (omega arith) (sym c.in-Letter.ensures) in
-    let long : c.run-end-end.result - at ≡ prefix_len is_letter (drop at xs) = omega (arith, c.run-end-end.ensures.is) in
-    record { is = ap (λ n. word (take n (drop at xs))) long ∙ h.is; here = refl; ends = omega (arith, c.run-end-end.ensures.is, h.wide); written = tt }
+    let long : c.run_end-end.result - at ≡ prefix_len is_letter (drop at xs) = omega (arith, c.run_end-end.ensures.is) in
+    record { is = ap (λ n. word (take n (drop at xs))) long ∙ h.is; here = refl; ends = omega (arith, c.run_end-end.ensures.is, h.wide); written = tt }
 
-pub returns-else-badly-written : goal.returns-else-badly-written
-returns-else-badly-written c =
+pub returns-else-badly_written : goal.returns-else-badly_written
+returns-else-badly_written c =
     let xs = c.args.self.now.text.now in
     let at = c.args.self.now.at in
     let h = in_hand xs at Digit (omega arith) (sym c.in-Digit.ensures) in
-    let stop = c.run-end-end-in-Digit.ensures.is in
-    let long : c.run-end-end-in-Digit.result - at ≡ prefix_len is_digit (drop at xs) = omega (arith, stop) in
-    let ds = take (c.run-end-end-in-Digit.result - at) (drop at xs) in
-    let well = sym c.if-badly-written.ensures in
+    let stop = c.run_end-end-in-Digit.ensures.is in
+    let long : c.run_end-end-in-Digit.result - at ≡ prefix_len is_digit (drop at xs) = omega (arith, stop) in
+    let ds = take (c.run_end-end-in-Digit.result - at) (drop at xs) in
+    let well = sym c.if-badly_written.ensures in
     record {
       is = sym (cond-false (badly_written ds) (bad 2) (number (digits_value 10 ds)) well) ∙ ap (λ n. figures (take n (drop at xs))) long ∙ h.is;
       here = refl;
@@ -50,4 +50,4 @@ returns-in-Outside c =
     let xs = c.args.self.now.text.now in
     let at = c.args.self.now.at in
     let h = in_hand xs at Outside (omega arith) (sym c.in-Outside.ensures) in
-    subst (Unmarked xs at) (sym c.no-mark-in-Outside.ensures) (record { is = sym h.is; layer = refl; here = refl })
+    subst (Unmarked xs at) (sym c.no_mark-in-Outside.ensures) (record { is = sym h.is; layer = refl; here = refl })

@@ -6,5 +6,5 @@ use Rattle.reader.proofs.marks.Reader.sign.Goals as goal
 
 pub returns : goal.returns
 returns c =
-    wants_one (the_sign (byte_of c.args.sign)) c.args.self.now c.take.new.self c.in-ok-mark.mark c.is-sign-wanted.result c.take.result c.in-ok-mark.ensures
-    c.is-sign-wanted.ensures refl c.take.ensures
+    wants_one (the_sign (byte_of c.args.sign)) c.args.self.now c.take.new.self c.in_ok-mark.mark c.is_sign-wanted.result c.take.result c.in_ok-mark.ensures
+    c.is_sign-wanted.ensures refl c.take.ensures

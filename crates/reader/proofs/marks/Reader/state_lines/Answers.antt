@@ -10,22 +10,22 @@ pub loop-u-init : goal.loop-u-init
 loop-u-init c =
     lines_start c.args.states c.args.self.now c.new-firsts.result c.new-cuts.result c.new-firsts.ensures.items c.new-cuts.ensures
 
-pub state-line-requires : goal.state-line-requires
-state-line-requires c = c.loop-u.invariant.few
+pub state_line-requires : goal.state_line-requires
+state_line-requires c = c.loop-u.invariant.few
 
 pub loop-u-preserved : goal.loop-u-preserved
-loop-u-preserved c = lines_more c.loop-u.invariant c.loop-u-test.true c.in-ok-state-line.ensures
+loop-u-preserved c = lines_more c.loop-u.invariant c.loop-u-test.true c.in_ok-state_line.ensures
 
 pub count-requires : goal.count-requires
 count-requires c = c.loop-u.invariant.few
 
-pub returns-in-err-state-line : goal.returns-in-err-state-line
-returns-in-err-state-line c =
-    hands_up _ _ (λ (_ : Unit {0}). LineRead c.loop-u.u c.loop-u.self c.state-line.new.self c.loop-u.firsts c.state-line.new.firsts c.loop-u.cuts c.state-line.new.cuts)
-    (λ f. line_from c.loop-u.u (room c.loop-u.cuts) c.loop-u.self.at (rest c.loop-u.self) ≡ told f) c.in-err-state-line.field-0.0
-    c.from-residual.result c.from-residual.ensures.1 c.in-err-state-line.ensures (λ f h. lines_fault f c.loop-u.invariant c.loop-u-test.true h)
+pub returns-in_err-state_line : goal.returns-in_err-state_line
+returns-in_err-state_line c =
+    hands_up _ _ (λ (_ : Unit {0}). LineRead c.loop-u.u c.loop-u.self c.state_line.new.self c.loop-u.firsts c.state_line.new.firsts c.loop-u.cuts c.state_line.new.cuts)
+    (λ f. line_from c.loop-u.u (room c.loop-u.cuts) c.loop-u.self.at (rest c.loop-u.self) ≡ told f) c.in_err-state_line.field-0.0
+    c.from_residual.result c.from_residual.ensures.1 c.in_err-state_line.ensures (λ f h. lines_fault f c.loop-u.invariant c.loop-u-test.true h)
 
 pub returns : goal.returns
 returns c =
-    let pushed = chosen _ _ _ _ c.push.ensures.items (ap is_ok c.in-ok-push.was) in
+    let pushed = chosen _ _ _ _ c.push.ensures.items (ap is_ok c.in_ok-push.was) in
     lines_end _ c.loop-u.invariant (omega arith) (pushed ∙ ap (λ n. vec_items c.loop-u.firsts ++ n ∷ []) c.count.ensures) refl refl

@@ -14,7 +14,7 @@ returns-in-Some c =
     )
 
 pub loop-u-preserved : goal.loop-u-preserved
-loop-u-preserved c = below_more _ _ c.loop-u.invariant (λ x. c.in-default.ensures x.0 x.1)
+loop-u-preserved c = below_more _ _ c.loop-u.invariant (λ x. c.in_default.ensures x.0 x.1)
 
 pub returns : goal.returns
 returns c =

@@ -1,6 +1,6 @@
 -- A queue that gathers a rank for each wanted state of a scan, and what is then taken from it.
 use Rattle.std.proofs.Common.{◌≡◌, ℕ, ◌+◌, ◌<◌, ◌≤◌, Bool, true, false, ◌⊎◌, List, [], ◌∷◌, ◌++◌, length, get_or, take, drop, Ok, Err, Result, sym, refl, ap, ◌∙◌, subst, inl, inr, arith, length-drop, MatchResult}
-use Rattle.std.specs.List.{AllByRecursion as All}
+use Rattle.std.specs.List.{AllByRecursion}
 use Rattle.std.proofs.lemmas.List.{get_or-take, length-take-le}
 use Rattle.std.proofs.ByRecursion.{All-from_get_or, All-push, all_shuffled}
 use Rattle.std.proofs.lemmas.List.Sorted.{IsPermutation-sym}
@@ -22,12 +22,12 @@ pub record Made {R : Type 0} (Wanted : ℕ → ℕ → Type 0) (made : ℕ → �
 
 -- x is among xs, told by tests: whatever test all of xs pass, x passes.
 abbrev pub Among : {R : Type 0} → R → List R → Type 0
-Among {R} x xs = (test : R → Bool) → All (λ y. test y ≡ true) xs → test x ≡ true
+Among {R} x xs = (test : R → Bool) → AllByRecursion (λ y. test y ≡ true) xs → test x ≡ true
 
 -- The first n of the row are the ranks of the wanted states below i.
 pub record Gathered {R : Type 0} (Wanted : ℕ → ℕ → Type 0) (made : ℕ → ℕ → R) (row : List R) (n i : ℕ) : Type 0 where
   pub few : n ≤ i
-  pub only : All (Made Wanted made) (take n row)
+  pub only : AllByRecursion (Made Wanted made) (take n row)
   pub each : (u g : ℕ) → u < i → Wanted u g → Among (made u g) (take n row)
 
 -- The wanted state whose rank was taken: no wanted one goes before it.
@@ -39,11 +39,11 @@ pub record FirstWanted {R : Type 0} (state : R → ℕ) (precedes : R → R → 
   pub first : (v k : ℕ) → v < i → Wanted v k → precedes (made u g) (made v k) ≡ true
 
 -- The last of a list, and what is before it.
-all_but_last : {R : Type 0} (P : R → Type 0) (xs : List R) (x : R) → All P (xs ++ x ∷ []) → All P xs
+all_but_last : {R : Type 0} (P : R → Type 0) (xs : List R) (x : R) → AllByRecursion P (xs ++ x ∷ []) → AllByRecursion P xs
 all_but_last P [] x h = tt
 all_but_last P (y ∷ ys) x h = (h.0, all_but_last P ys x h.1)
 
-all_last : {R : Type 0} (P : R → Type 0) (xs : List R) (x : R) → All P (xs ++ x ∷ []) → P x
+all_last : {R : Type 0} (P : R → Type 0) (xs : List R) (x : R) → AllByRecursion P (xs ++ x ∷ []) → P x
 all_last P [] x h = h.0
 all_last P (y ∷ ys) x h = all_last P ys x h.1
 
@@ -57,7 +57,7 @@ module _ {R : Type 0} {Wanted : ℕ → ℕ → Type 0} {made : ℕ → ℕ → 
   pub gathered_none : (row : List R) (n : ℕ) → n ≡ 0 → Gathered Wanted made row n 0
   gathered_none row n e = record {
     few = omega arith;
-    only = subst (λ (k : ℕ). All (Made Wanted made) (take k row)) (sym e) tt;
+    only = subst (λ (k : ℕ). AllByRecursion (Made Wanted made) (take k row)) (sym e) tt;
     each = λ u g low. absurd (omega arith);
   }
 
@@ -81,7 +81,7 @@ module _ {R : Type 0} {Wanted : ℕ → ℕ → Type 0} {made : ℕ → ℕ → 
     each = each;
   }
     where
-      parts : (test : R → Bool) → All (λ y. test y ≡ true) (take n' row') → All (λ y. test y ≡ true) (take n row ++ x ∷ [])
+      parts : (test : R → Bool) → AllByRecursion (λ y. test y ≡ true) (take n' row') → AllByRecursion (λ y. test y ≡ true) (take n row ++ x ∷ [])
       parts test h = all_shuffled (λ y. test y ≡ true) (take n' row') (take n row ++ x ∷ []) put.held h
 
       here : Among (made i g) (take n' row')
@@ -114,7 +114,7 @@ module _ {R : Type 0} {Wanted : ℕ → ℕ → Type 0} {made : ℕ → ℕ → 
       out : Made Wanted made taken.out
       out = all_last (Made Wanted made) (take n' row') taken.out (all_shuffled (Made Wanted made) (take n row) (take n' row' ++ taken.out ∷ []) taken.held all.only)
 
-      before : All (λ y. precedes taken.out y ≡ true) (take n row)
+      before : AllByRecursion (λ y. precedes taken.out y ≡ true) (take n row)
       before = All-from_get_or (λ y. precedes taken.out y ≡ true) (take n row) taken.out (λ k low.
           let below : k < n = omega (arith, length-take-le n row fits) in
           subst (λ (y : R). precedes taken.out y ≡ true) (sym (get_or-take n row k taken.out below)) (taken.first k taken.out below))
@@ -122,7 +122,7 @@ module _ {R : Type 0} {Wanted : ℕ → ℕ → Type 0} {made : ℕ → ℕ → 
   -- Where nothing is held, none was wanted.
   pub gathered_empty : {row : List R} {n i u g : ℕ} → n ≡ 0 → Gathered Wanted made row n i → u < i → Wanted u g → ⊥
   gathered_empty {row} {n} {i} {u} {g} e all low want =
-      let none : All (λ y. ◌≡◌ {A = Bool} false true) (take n row) = subst (λ (k : ℕ). All (λ y. ◌≡◌ {A = Bool} false true) (take k row)) (sym e) tt in
+      let none : AllByRecursion (λ y. ◌≡◌ {A = Bool} false true) (take n row) = subst (λ (k : ℕ). AllByRecursion (λ y. ◌≡◌ {A = Bool} false true) (take k row)) (sym e) tt in
       let wrong : ◌≡◌ {A = Bool} false true = all.each u g low want (λ _. false) none in
       let no_way : ◌≡◌ {A = ℕ} 0 1 = cc in
       omega arith

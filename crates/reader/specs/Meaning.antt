@@ -1,7 +1,7 @@
 -- What the reader's marks mean.
 use Rattle.std.specs.Prelude.{◌≡◌, ℕ, ◌+◌, ◌≤◌, Bool, not, ◌||◌, List, length, drop, Ok, Err, Result}
 use Rattle.std.specs.Str.Parse.{digits_value}
-use Rattle.std.specs.List.{AllByRecursion as All}
+use Rattle.std.specs.List.{AllByRecursion}
 use Rattle.course.specs.Refusals.{number_of}
 use Rattle.text.specs.declared.Kind.{Kind}
 use Rattle.text.specs.declared.Kind.TheVariants.{Single, Letter, Digit, Outside}
@@ -39,7 +39,7 @@ meant End = end
 
 -- At most seven digits.
 pub record Figures (ds : List ℕ) : Type 0 where
-  pub all : All (λ b. is_digit b ≡ mathlib.Core.Bool.true) ds
+  pub all : AllByRecursion (λ b. is_digit b ≡ mathlib.Core.Bool.true) ds
   pub few : length ds ≤ 7
 
 abbrev pub Written : Token → Type 0

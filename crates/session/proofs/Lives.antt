@@ -7,7 +7,7 @@ use Rattle.text.specs.declared.Order.{Order}
 use Rattle.course.specs.Blanks.{Meaning, Lawful}
 use Rattle.course.specs.Machine as Machine
 use Rattle.course.specs.Machine.{State}
-use Rattle.std.specs.List.{AllByRecursion as All}
+use Rattle.std.specs.List.{AllByRecursion}
 use Rattle.course.specs.declared.machine.Word.{Word}
 use Rattle.course.specs.Calls.{Call, Answer, worked, Does, Life, then}
 use Rattle.session.specs.declared.reply.Reply.{Reply}
@@ -84,13 +84,13 @@ written_more replies more x row before after is was e =
     ∙ sym (ap (λ l. all_written l row) (ap (map answer_of) is ∙ map-append answer_of replies (x ∷ [])) ∙ written_push (map answer_of replies) (answer_of x) row)
 
 -- Where no work was accepted, none was before the last either.
-all_push : (P : Answer → Type 0) (answers : List Answer) (a : Answer) → All P (answers ++ a ∷ []) → All P answers × P a
+all_push : (P : Answer → Type 0) (answers : List Answer) (a : Answer) → AllByRecursion P (answers ++ a ∷ []) → AllByRecursion P answers × P a
 all_push P [] a h = (tt, h.0)
 all_push P (x ∷ answers) a h = let rest = all_push P answers a h.1 in ((h.0, rest.0), rest.1)
 
-pub no_work_more : (replies more : List Reply) (x : Reply) → more ≡ replies ++ x ∷ [] → All NoWork (map answer_of more) → All NoWork (map answer_of replies) × NoWork (answer_of x)
+pub no_work_more : (replies more : List Reply) (x : Reply) → more ≡ replies ++ x ∷ [] → AllByRecursion NoWork (map answer_of more) → AllByRecursion NoWork (map answer_of replies) × NoWork (answer_of x)
 no_work_more replies more x is none =
-    all_push NoWork (map answer_of replies) (answer_of x) (subst (λ (l : List Answer). All NoWork l) (ap (map answer_of) is ∙ map-append answer_of replies (x ∷ [])) none)
+    all_push NoWork (map answer_of replies) (answer_of x) (subst (λ (l : List Answer). AllByRecursion NoWork l) (ap (map answer_of) is ∙ map-append answer_of replies (x ∷ [])) none)
 
 -- The answer of a work is that of a work.
 pub was_work : {A : Type 0} {word : Word} {moves : ℕ} → NoWork (worked word moves) → A

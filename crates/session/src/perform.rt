@@ -5,7 +5,7 @@ ghost use Rattle.wish.specs.Wished.{order_of};
 ghost use Rattle.planner.specs.Idle.{Idle};
 ghost use Rattle.planner.specs.Lasts.{state_of};
 ghost use Rattle.planner.specs.Calls.{AfterLives};
-ghost use Rattle.std.specs.List.{AllByRecursion as All};
+ghost use Rattle.std.specs.List.{AllByRecursion};
 ghost use Rattle.session.specs.Replies.{call_of, answer_of, written, all_written, NoWork};
 ghost use Rattle.session.specs.Lived.{newest_first, Lived};
 
@@ -86,7 +86,7 @@ fn perform_each<B: Blank, W: Wish>(
     ensures lives { IfOk result (λ v. AfterLives (meaning last.old.blank) (order_of (ranked last.old.wish) W.Rank.Rank.precedes) (state_of last.old)
         (λ cs. Life (meaning last.old.blank) (order_of (ranked last.old.wish) W.Rank.Rank.precedes) (newest_first (map (call_of (length costs.old) (length wishes.old) (length row.old)) orders.now) (map answer_of v.items) cs) (state_of last.new))) }
     ensures row { IfOk result (λ v. row.new ≡ all_written (map answer_of v.items) row.old) }
-    ensures ranks { IfOk result (λ v. All NoWork (map answer_of v.items) → (costs.new ≡ costs.old) × (wishes.new ≡ wishes.old)) }
+    ensures ranks { IfOk result (λ v. AllByRecursion NoWork (map answer_of v.items) → (costs.new ≡ costs.old) × (wishes.new ≡ wishes.old)) }
     ensures blank { last.new.blank ≡ last.old.blank }
     ensures wish { last.new.wish ≡ last.old.wish }
 {
@@ -116,7 +116,7 @@ pub fn perform_all<B: Blank, W: Wish>(
     ensures wish { result.0.wish ≡ wish }
     ensures lived { IfOk result.1 (λ v. Lived (meaning blank) (order_of (ranked wish) W.Rank.Rank.precedes) (map (call_of (length costs.old) (length wishes.old) (length row.old)) orders.now) (map answer_of v.items)) }
     ensures row { IfOk result.1 (λ v. row.new ≡ all_written (map answer_of v.items) row.old) }
-    ensures ranks { IfOk result.1 (λ v. All NoWork (map answer_of v.items) → (costs.new ≡ costs.old) × (wishes.new ≡ wishes.old)) }
+    ensures ranks { IfOk result.1 (λ v. AllByRecursion NoWork (map answer_of v.items) → (costs.new ≡ costs.old) × (wishes.new ≡ wishes.old)) }
 {
     let mut last = Last::clamp(bench, blank, wish);
     let replies = perform_each(heap, &mut last, orders, costs, wishes, row);

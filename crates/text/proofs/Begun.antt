@@ -1,6 +1,6 @@
 -- The faults of layers 1 and 2 are the first: what stands before the place told can be carried on to a document's text.
 use Rattle.std.proofs.Common.{◌≡◌, ℕ, zero, suc, ◌+◌, ◌-◌, ◌^◌, ◌<◌, ◌≤◌, Bool, true, false, List, [], ◌∷◌, ◌++◌, length, get_or, take, drop, replicate, Some, None, Option, sym, refl, ap, ◌∙◌, add-zero, zero-add, arith}
-use Rattle.std.specs.List.{AllByRecursion as All}
+use Rattle.std.specs.List.{AllByRecursion}
 use Rattle.std.proofs.lemmas.List.{append_assoc, length-append, append-nil, take_at, drop_at, length-replicate}
 use Rattle.text.specs.Marks.{Mark, sign, word, number, end, bad, next, width}
 use Rattle.text.specs.Forms.{Want, the_sign, the_word, the_number, a_number, Form, filled, meets, keeps, got, fault, and_then, unwanted, follow}
@@ -159,12 +159,12 @@ follow_begun (w ∷ f) h p bs l c q e = go (meets w (next bs)) refl e (follow_be
 -- As many cuts as there is room for, and a space.
 record FullCuts (room : ℕ) (bs : List ℕ) : Type 0 where
   cuts : List Cut
-  short : All ShortCut cuts
+  short : AllByRecursion ShortCut cuts
   all : length cuts ≡ room
   is : bs ≡ bare_cuts cuts ++ (32 ∷ [])
 
 -- A line's end, and a first cut.
-line_end_begun : (room p : ℕ) (bs : List ℕ) (l c q : ℕ) → and_then {B = List Cut} (follow line_end p bs) (λ ns q rest. got [] q rest) ≡ fault l c q → Begun cuts_text (All ShortCut) (FullCuts room) p bs l c q
+line_end_begun : (room p : ℕ) (bs : List ℕ) (l c q : ℕ) → and_then {B = List Cut} (follow line_end p bs) (λ ns q rest. got [] q rest) ≡ fault l c q → Begun cuts_text (AllByRecursion ShortCut) (FullCuts room) p bs l c q
 line_end_begun room p bs l c q e =
     elim (where_fault {B = List Cut} (follow line_end p bs) (λ ns q rest. got [] q rest) l c q e) [
       | before r ↦
@@ -176,10 +176,10 @@ line_end_begun room p bs l c q e =
 abbrev free_cut : Cut
 free_cut = record { target = 0; cost = 0 }
 
-cuts_begun : (room p : ℕ) (bs : List ℕ) (l c q : ℕ) → cuts_from room p bs ≡ fault l c q → Begun cuts_text (All ShortCut) (FullCuts room) p bs l c q
+cuts_begun : (room p : ℕ) (bs : List ℕ) (l c q : ℕ) → cuts_from room p bs ≡ fault l c q → Begun cuts_text (AllByRecursion ShortCut) (FullCuts room) p bs l c q
 cuts_begun zero p bs l c q e = go (meets closing (next bs)) e
   where
-    go : (t : Bool) → cuts_by zero p bs t ≡ fault l c q → Begun cuts_text (All ShortCut) (FullCuts zero) p bs l c q
+    go : (t : Bool) → cuts_by zero p bs t ≡ fault l c q → Begun cuts_text (AllByRecursion ShortCut) (FullCuts zero) p bs l c q
     go true e = line_end_begun zero p bs l c q e
     go false e =
         elim (where_fault {B = List Cut} (follow (space ∷ opening ∷ []) p bs) (λ ns q rest. fault 2 4 (q - 1)) l c q e) [
@@ -206,8 +206,8 @@ cuts_begun (suc room) p bs l c q e = go (meets closing (next bs)) e (cuts_begun 
   where
     go :
         (t : Bool) → cuts_by (suc room) p bs t ≡ fault l c q
-        → ((p : ℕ) (bs : List ℕ) (l c q : ℕ) → cuts_from room p bs ≡ fault l c q → Begun cuts_text (All ShortCut) (FullCuts room) p bs l c q)
-        → Begun cuts_text (All ShortCut) (FullCuts (suc room)) p bs l c q
+        → ((p : ℕ) (bs : List ℕ) (l c q : ℕ) → cuts_from room p bs ≡ fault l c q → Begun cuts_text (AllByRecursion ShortCut) (FullCuts room) p bs l c q)
+        → Begun cuts_text (AllByRecursion ShortCut) (FullCuts (suc room)) p bs l c q
     go true e ih = line_end_begun (suc room) p bs l c q e
     go false e ih =
         elim (where_fault (follow a_cut p bs) (λ ns q rest. and_then (cuts_from room q rest) (λ cs q rest. got (cut_of ns ∷ cs) q rest)) l c q e) [
@@ -242,15 +242,15 @@ cuts_begun (suc room) p bs l c q e = go (meets closing (next bs)) e (cuts_begun 
 -- Lines with no cuts, for the states that are left.
 record Lines (k : ℕ) (css : List (List Cut)) : Type 0 where
   all : length css ≡ k
-  short : All (All ShortCut) css
+  short : AllByRecursion (AllByRecursion ShortCut) css
 
 -- Whole lines of fewer than k states from u on, and of the next line its cuts so far and a space: as many cuts as there is room for.
 pub record FullLines (k u room : ℕ) (bs : List ℕ) : Type 0 where
   pub whole : List (List Cut)
   pub begun : List Cut
   pub more : length whole < k
-  pub whole_short : All (All ShortCut) whole
-  pub begun_short : All ShortCut begun
+  pub whole_short : AllByRecursion (AllByRecursion ShortCut) whole
+  pub begun_short : AllByRecursion ShortCut begun
   pub all : total whole + length begun ≡ room
   pub is : bs ≡ lines_text u whole ++ (filled (from (u + length whole)) [] ++ (bare_cuts begun ++ (32 ∷ [])))
 
@@ -268,7 +268,7 @@ first_full k u room y h =
 
 later_full :
     (k u room : ℕ) (cs : List Cut) (y : List ℕ)
-    → All ShortCut cs → length cs ≤ room → FullLines k (suc u) (room - length cs) y → FullLines (suc k) u room ((filled (from u) [] ++ cuts_text cs) ++ y)
+    → AllByRecursion ShortCut cs → length cs ≤ room → FullLines k (suc u) (room - length cs) y → FullLines (suc k) u room ((filled (from u) [] ++ cuts_text cs) ++ y)
 later_full k u room cs y s n h =
     let line = filled (from u) [] ++ cuts_text cs in
     let last : ℕ → List ℕ = λ v. filled (from v) [] ++ (bare_cuts h.begun ++ (32 ∷ [])) in
@@ -288,11 +288,11 @@ later_full k u room cs y s n h =
 bare : (k : ℕ) → Lines k (replicate k [])
 bare k = record { all = length-replicate k []; short = go k }
   where
-    go : (k : ℕ) → All (All ShortCut) (replicate k [])
+    go : (k : ℕ) → AllByRecursion (AllByRecursion ShortCut) (replicate k [])
     go zero = tt
     go (suc k) = (tt, go k)
 
-one_more : (k : ℕ) (cs : List Cut) (css : List (List Cut)) → All ShortCut cs → Lines k css → Lines (suc k) (cs ∷ css)
+one_more : (k : ℕ) (cs : List Cut) (css : List (List Cut)) → AllByRecursion ShortCut cs → Lines k css → Lines (suc k) (cs ∷ css)
 one_more k cs css s h = record { all = ap suc h.all; short = (s, h.short) }
 
 lines_begun :
@@ -344,10 +344,10 @@ lines_begun (suc k) u room p bs l c q n e =
 abbrev order_text : Order → List ℕ
 order_text o = filled (an_order (verb o)) (numbers o)
 
-order_begun : (p : ℕ) (bs : List ℕ) (l c q : ℕ) → order_from p bs ≡ fault l c q → Begun order_text (λ o. All Short (numbers o)) Never p bs l c q
+order_begun : (p : ℕ) (bs : List ℕ) (l c q : ℕ) → order_from p bs ≡ fault l c q → Begun order_text (λ o. AllByRecursion Short (numbers o)) Never p bs l c q
 order_begun p bs l c q e = go (verb_of (next bs)) e
   where
-    go : (x : Option Verb) → order_by x p bs ≡ fault l c q → Begun order_text (λ o. All Short (numbers o)) Never p bs l c q
+    go : (x : Option Verb) → order_by x p bs ≡ fault l c q → Begun order_text (λ o. AllByRecursion Short (numbers o)) Never p bs l c q
     go (Some v) e =
         elim (where_fault (follow (an_order v) p bs) (λ ns q rest. got (order_of v ns) q rest) l c q e) [
           | before r ↦
@@ -358,10 +358,10 @@ order_begun p bs l c q e = go (verb_of (next bs)) e
               ∙ sym (append-nil (filled (an_order v) g.thing)))
           | behind ns m mid r k ↦ no_got (order_of v ns) m mid l c q k
         ]
-    go None e = begins order_text (λ o. All Short (numbers o)) p bs l c q Show tt e
+    go None e = begins order_text (λ o. AllByRecursion Short (numbers o)) p bs l c q Show tt e
 
 orders_begun :
-    (turns p : ℕ) (bs : List ℕ) (l c q : ℕ) → orders_from turns p bs ≡ fault l c q → Begun orders_text (All (λ o. All Short (numbers o))) Never p bs l c q
+    (turns p : ℕ) (bs : List ℕ) (l c q : ℕ) → orders_from turns p bs ≡ fault l c q → Begun orders_text (AllByRecursion (λ o. AllByRecursion Short (numbers o))) Never p bs l c q
 orders_begun turns p [] l c q e = no_got [] p [] l c q e
 orders_begun zero p (b ∷ bs) l c q e = no_got [] p (b ∷ bs) l c q e
 orders_begun (suc turns) p (b ∷ bs) l c q e =
@@ -398,12 +398,12 @@ orders_begun (suc turns) p (b ∷ bs) l c q e =
 -- The body of a text, under a first line that says n, s and g.
 record Numbers (k : ℕ) (hs : List ℕ) : Type 0 where
   all : length hs ≡ k
-  short : All Short hs
+  short : AllByRecursion Short hs
 
 zeros : (k : ℕ) → Numbers k (replicate k 0)
 zeros k = record { all = length-replicate k 0; short = go k }
   where
-    go : (k : ℕ) → All Short (replicate k 0)
+    go : (k : ℕ) → AllByRecursion Short (replicate k 0)
     go zero = tt
     go (suc k) = (omega arith, go k)
 
@@ -418,7 +418,7 @@ record Under (n s g : ℕ) (d : Document) : Type 0 where
 
 under :
     (n s g : ℕ) (css : List (List Cut)) (hs : List ℕ) (os : List Order)
-    → Short n → Short s → Short g → Lines n css → Numbers n hs → All (λ o. All Short (numbers o)) os → Under n s g (doc n s g css hs os)
+    → Short n → Short s → Short g → Lines n css → Numbers n hs → AllByRecursion (λ o. AllByRecursion Short (numbers o)) os → Under n s g (doc n s g css hs os)
 under n s g css hs os ns ss gs lc nh so =
     record {
       states = refl;

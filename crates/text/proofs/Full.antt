@@ -1,6 +1,6 @@
 -- The reading of a text that has as many cuts as it may have stops at the bracket of the next one.
 use Rattle.std.proofs.Common.{◌≡◌, ℕ, zero, suc, ◌+◌, ◌-◌, ◌<◌, List, [], ◌∷◌, ◌++◌, length, sym, refl, ap, ◌∙◌, zero-add, arith}
-use Rattle.std.specs.List.{AllByRecursion as All}
+use Rattle.std.specs.List.{AllByRecursion}
 use Rattle.std.proofs.lemmas.List.{append_assoc, length-append}
 use Rattle.text.specs.Marks.{is_digit}
 use Rattle.text.specs.Forms.{filled, Got, got, fault, and_then, follow}
@@ -22,7 +22,7 @@ one_more rest = 32 ∷ 40 ∷ rest
 
 cuts_full :
     (cs : List Cut) (room p q : ℕ) (rest : List ℕ)
-    → All ShortCut cs → length cs ≡ room → q ≡ p + length (bare_cuts cs) + 1 → cuts_from room p (bare_cuts cs ++ one_more rest) ≡ fault 2 4 q
+    → AllByRecursion ShortCut cs → length cs ≡ room → q ≡ p + length (bare_cuts cs) + 1 → cuts_from room p (bare_cuts cs ++ one_more rest) ≡ fault 2 4 q
 cuts_full [] zero p q rest s h e = ap (λ z. fault 2 4 z) (let d : p + 1 + 1 - 1 ≡ q = omega arith in d)
 cuts_full [] (suc room) p q rest s h e = absurd (omega arith)
 cuts_full (c ∷ cs) zero p q rest s h e = absurd (omega arith)
@@ -43,7 +43,7 @@ begun_line v cs rest = filled (from v) [] ++ (bare_cuts cs ++ one_more rest)
 
 lines_full :
     (css : List (List Cut)) (k u v room p q : ℕ) (cs : List Cut) (rest : List ℕ)
-    → length css < k → v ≡ u + length css → Short v → All (All ShortCut) css → All ShortCut cs → total css + length cs ≡ room
+    → length css < k → v ≡ u + length css → Short v → AllByRecursion (AllByRecursion ShortCut) css → AllByRecursion ShortCut cs → total css + length cs ≡ room
     → q ≡ p + length (lines_text u css) + length (filled (from v) []) + length (bare_cuts cs) + 1
     → lines_from k u room p (lines_text u css ++ begun_line v cs rest) ≡ fault 2 4 q
 lines_full [] zero u v room p q cs rest m w n ss s h e = absurd (omega arith)

@@ -1,6 +1,6 @@
 -- The estimates and the orders, read and written.
 use Rattle.std.proofs.Common.{◌≡◌, ℕ, zero, suc, ◌+◌, ◌<◌, ◌≤◌, List, [], ◌∷◌, ◌++◌, length, Some, None, Option, sym, refl, ap, ◌∙◌, subst, arith}
-use Rattle.std.specs.List.{AllByRecursion as All}
+use Rattle.std.specs.List.{AllByRecursion}
 use Rattle.std.proofs.lemmas.List.{append_assoc, length-append}
 use Rattle.text.specs.Marks.{word, next, is_digit, is_letter}
 use Rattle.text.specs.Forms.{filled, Got, got, and_then, unwanted, follow}
@@ -14,12 +14,12 @@ use Rattle.text.proofs.Forms.{went, goes, never_got, Took, took_both, Fits, foll
 use Rattle.text.proofs.Cuts.{follow_to}
 
 -- The numbers of such a line are as many as it wants, and short.
-pub spaced_fits : (n : ℕ) (hs : List ℕ) → Fits (spaced_numbers n) hs → (length hs ≡ n) × All Short hs
+pub spaced_fits : (n : ℕ) (hs : List ℕ) → Fits (spaced_numbers n) hs → (length hs ≡ n) × AllByRecursion Short hs
 spaced_fits zero hs h = rw h (refl, tt)
 spaced_fits (suc n) [] h = elim h [ ]
 spaced_fits (suc n) (x ∷ hs) h = let t = spaced_fits n hs h.1 in (ap suc t.0, (h.0, t.1))
 
-pub fits_spaced : (hs : List ℕ) → All Short hs → Fits (spaced_numbers (length hs)) hs
+pub fits_spaced : (hs : List ℕ) → AllByRecursion Short hs → Fits (spaced_numbers (length hs)) hs
 fits_spaced [] s = refl
 fits_spaced (x ∷ hs) s = (s.0, fits_spaced hs s.1)
 
@@ -35,7 +35,7 @@ spaced_spaced (suc n) rest = (refl, ((λ ns. (spaced_stops n ns rest).0), spaced
 pub record SameOrder (v : Verb) (ns : List ℕ) : Type 0 where
   pub same_verb : verb (order_of v ns) ≡ v
   pub same_numbers : numbers (order_of v ns) ≡ ns
-  pub short : All Short (numbers (order_of v ns))
+  pub short : AllByRecursion Short (numbers (order_of v ns))
 
 pub same_order : (v : Verb) (ns : List ℕ) → Fits (an_order v) ns → SameOrder v ns
 same_order ratio_verb [] h = elim h [ ]
@@ -52,7 +52,7 @@ same_order show_verb ns h = record { same_verb = refl; same_numbers = sym h; sho
 same_order route_verb ns h = record { same_verb = refl; same_numbers = sym h; short = tt }
 
 pub record OrderRead (p : ℕ) (bs : List ℕ) (o : Order) (q : ℕ) (rest : List ℕ) : Type 0 where
-  pub short : All Short (numbers o)
+  pub short : AllByRecursion Short (numbers o)
   pub took : Took (filled (an_order (verb o)) (numbers o)) p bs q rest
 
 -- An order, by the verb in hand, if there is one.
@@ -104,7 +104,7 @@ named_lettered ceiling_verb = record { some = omega arith; every = (refl, (refl,
 named_lettered show_verb = record { some = omega arith; every = (refl, (refl, (refl, (refl, tt)))) }
 named_lettered route_verb = record { some = omega arith; every = (refl, (refl, (refl, (refl, (refl, tt))))) }
 
-fits_order : (o : Order) → All Short (numbers o) → Fits (an_order (verb o)) (numbers o)
+fits_order : (o : Order) → AllByRecursion Short (numbers o) → Fits (an_order (verb o)) (numbers o)
 fits_order (Ratio p q) s = (s.0, (s.1.0, refl))
 fits_order (Work b) s = (s.0, refl)
 fits_order (Ceiling c) s = (s.0, refl)
@@ -120,7 +120,7 @@ order_again Route = refl
 
 order_complete :
     (o : Order) (p q : ℕ) (rest : List ℕ)
-    → All Short (numbers o) → q ≡ p + length (filled (an_order (verb o)) (numbers o)) → order_from p (filled (an_order (verb o)) (numbers o) ++ rest) ≡ got o q rest
+    → AllByRecursion Short (numbers o) → q ≡ p + length (filled (an_order (verb o)) (numbers o)) → order_from p (filled (an_order (verb o)) (numbers o) ++ rest) ≡ got o q rest
 order_complete o p q rest s e =
     let v = verb o in
     let ns = numbers o in
@@ -140,7 +140,7 @@ order_complete o p q rest s e =
     ∙ ap (λ z. got z q rest) (order_again o)
 
 pub record OrdersRead (p : ℕ) (bs : List ℕ) (os : List Order) (q : ℕ) (rest : List ℕ) : Type 0 where
-  pub short : All (λ o. All Short (numbers o)) os
+  pub short : AllByRecursion (λ o. AllByRecursion Short (numbers o)) os
   pub took : Took (orders_text os) p bs q rest
   pub done : rest ≡ []
 
@@ -188,7 +188,7 @@ orders_sound (suc turns) p (b ∷ bs) os q rest n e =
 
 pub orders_complete :
     (os : List Order) (turns p q : ℕ)
-    → All (λ o. All Short (numbers o)) os → length (orders_text os) ≤ turns → q ≡ p + length (orders_text os)
+    → AllByRecursion (λ o. AllByRecursion Short (numbers o)) os → length (orders_text os) ≤ turns → q ≡ p + length (orders_text os)
     → orders_from turns p (orders_text os) ≡ got os q []
 orders_complete [] turns p q s n e = let same : q ≡ p = omega arith in ap (λ z. got [] z []) (sym same)
 orders_complete (o ∷ os) zero p q s n e = absurd (omega arith)

@@ -1,6 +1,6 @@
 -- Runs of letters and of digits, and what a run of digits says.
 use Rattle.std.proofs.Common.{◌≡◌, ℕ, ◌+◌, ◌<◌, Bool, true, false, cond, leb, List, [], ◌∷◌, ◌++◌, length, get_or, take, refl, one-add, arith}
-use Rattle.std.specs.List.{prefix_len, AllByRecursion as All}
+use Rattle.std.specs.List.{prefix_len, AllByRecursion}
 use Rattle.std.specs.Str.Parse.{digits_value}
 use Rattle.std.proofs.lemmas.Bool.{and_parts, and_from, leb-true, le-leb}
 use Rattle.std.proofs.lemmas.Bool.Decides.{nat_tests}
@@ -10,7 +10,7 @@ use Rattle.text.specs.declared.Kind.TheVariants.{Letter, Digit, Single}
 
 -- Every byte passes.
 abbrev pub Every : (ℕ → Bool) → List ℕ → Type 0
-Every p xs = All (λ x. p x ≡ true) xs
+Every p xs = AllByRecursion (λ x. p x ≡ true) xs
 
 -- The first byte, if there is one, does not pass.
 abbrev pub Stops : (ℕ → Bool) → List ℕ → Type 0

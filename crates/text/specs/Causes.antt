@@ -1,6 +1,6 @@
 -- Why a text is refused: which layer and cause belong to what stands at a place, said without the reader.
 use Rattle.std.specs.Prelude.{◌≡◌, ℕ, ◌+◌, ◌<◌, ◌≤◌, true, false, List, [], ◌∷◌, ◌++◌, length, take, drop, ◌≢◌, slice_index}
-use Rattle.std.specs.List.{flat_map, AllByRecursion as All}
+use Rattle.std.specs.List.{flat_map, AllByRecursion}
 use Rattle.text.specs.declared.Kind.TheVariants.{Outside}
 use Rattle.text.specs.Marks.{is_digit, kind, sign, bad, next, width, badly_written}
 use Rattle.text.specs.Forms.{filled}
@@ -34,15 +34,15 @@ pub record Full (bs : List ℕ) : Type 0 where
   pub whole : List (List Cut)
   pub begun : List Cut
   pub more : length whole < states
-  pub whole_short : All (All ShortCut) whole
-  pub begun_short : All ShortCut begun
+  pub whole_short : AllByRecursion (AllByRecursion ShortCut) whole
+  pub begun_short : AllByRecursion ShortCut begun
   pub all : total whole + length begun ≡ 8192
   pub is : head.rest ≡ lines_text 0 whole ++ (filled (from (length whole)) [] ++ (bare_cuts begun ++ filled (space ∷ []) []))
 
 -- The bytes begin with the digits ds, one or more, and no digit follows these. (Where nothing follows, `get_or` gives 0, which is no digit.)
 pub record Run (ds bs : List ℕ) : Type 0 where
   pub some : 0 < length ds
-  pub digits : All (λ b. is_digit b ≡ true) ds
+  pub digits : AllByRecursion (λ b. is_digit b ≡ true) ds
   pub rest : List ℕ
   pub is : bs ≡ ds ++ rest
   pub ends : is_digit (slice_index rest 0) ≡ false

@@ -1,6 +1,6 @@
 -- A document, and the one text that writes it.
 use Rattle.std.specs.Prelude.{◌≡◌, ℕ, zero, suc, ◌+◌, ◌^◌, ◌<◌, ◌≤◌, List, [], ◌∷◌, ◌++◌, length, codes}
-use Rattle.std.specs.List.{AllByRecursion as All}
+use Rattle.std.specs.List.{AllByRecursion}
 use Rattle.text.specs.declared.Order.{Order}
 use Rattle.text.specs.declared.Order.TheVariants.{Ratio, Work, Ceiling, Show, Route}
 use Rattle.text.specs.Forms.{Form, Want, the_sign, the_word, the_number, a_number, filled}
@@ -139,10 +139,10 @@ pub record WellFormed (d : Document) : Type 0 where
   pub goal_short : Short d.goal
   pub lines : length d.cuts ≡ d.states
   pub cuts_few : total d.cuts ≤ 8192
-  pub cuts_short : All (All ShortCut) d.cuts
+  pub cuts_short : AllByRecursion (AllByRecursion ShortCut) d.cuts
   pub estimates_all : length d.estimates ≡ d.states
-  pub estimates_short : All Short d.estimates
-  pub orders_short : All (λ o. All Short (numbers o)) d.orders
+  pub estimates_short : AllByRecursion Short d.estimates
+  pub orders_short : AllByRecursion (λ o. AllByRecursion Short (numbers o)) d.orders
 
 -- The same without the limits on how many states and cuts there are.
 pub record Shaped (d : Document) : Type 0 where
@@ -150,7 +150,7 @@ pub record Shaped (d : Document) : Type 0 where
   pub start_short : Short d.start
   pub goal_short : Short d.goal
   pub lines : length d.cuts ≡ d.states
-  pub cuts_short : All (All ShortCut) d.cuts
+  pub cuts_short : AllByRecursion (AllByRecursion ShortCut) d.cuts
   pub estimates_all : length d.estimates ≡ d.states
-  pub estimates_short : All Short d.estimates
-  pub orders_short : All (λ o. All Short (numbers o)) d.orders
+  pub estimates_short : AllByRecursion Short d.estimates
+  pub orders_short : AllByRecursion (λ o. AllByRecursion Short (numbers o)) d.orders

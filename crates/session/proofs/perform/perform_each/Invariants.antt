@@ -3,7 +3,7 @@ use Rattle.course.specs.Calls.{Call, Answer, Life}
 use Rattle.wish.specs.Wished.{order_of}
 use Rattle.planner.specs.Lasts.{state_of}
 use Rattle.planner.specs.Calls.{AfterLives}
-use Rattle.std.specs.List.{AllByRecursion as All}
+use Rattle.std.specs.List.{AllByRecursion}
 use Rattle.session.specs.Replies.{call_of, answer_of, all_written, NoWork}
 use Rattle.session.specs.Lived.{newest_first}
 use Rattle.session.proofs.perform.perform_each.Given as goal
@@ -18,4 +18,4 @@ invariant-loop-order g l =
     (newest_first (map (call_of (length l.initial.costs) (length l.initial.wishes) (length l.initial.row)) (take l.order-index l.orders)) (map answer_of (vec_items l.replies)) cs)
     (state_of l.last)))
     × (l.row ≡ all_written (map answer_of (vec_items l.replies)) l.initial.row)
-    × (All NoWork (map answer_of (vec_items l.replies)) → (l.costs ≡ l.initial.costs) × (l.wishes ≡ l.initial.wishes))
+    × (AllByRecursion NoWork (map answer_of (vec_items l.replies)) → (l.costs ≡ l.initial.costs) × (l.wishes ≡ l.initial.wishes))

@@ -26,11 +26,11 @@ pub fn compare<A: Blank, V: Wish, B: Blank, W: Wish>(
     first_row: &mut [u32],
     second_row: &mut [u32],
 ) -> Compared
-    ensures first { ShowAnswered (A.Blank.meaning first.now.blank) (order_of (V.Wish.ranked first.now.wish) Rank-as-Rank-1.precedes) (state_of first.now) result.first }
-    ensures second { ShowAnswered (B.Blank.meaning second.now.blank) (order_of (W.Wish.ranked second.now.wish) Rank-as-Rank-2.precedes) (state_of second.now) result.second }
-    ensures tells { RouteAnswered (A.Blank.meaning first.now.blank) (order_of (V.Wish.ranked first.now.wish) Rank-as-Rank-1.precedes) (state_of first.now) first_row.old result.first_route first_row.new }
-    ensures others { RouteAnswered (B.Blank.meaning second.now.blank) (order_of (W.Wish.ranked second.now.wish) Rank-as-Rank-2.precedes) (state_of second.now) second_row.old result.second_route second_row.new }
-    ensures agree { Agree (A.Blank.meaning first.now.blank) (B.Blank.meaning second.now.blank) (order_of (V.Wish.ranked first.now.wish) Rank-as-Rank-1.precedes) (order_of (W.Wish.ranked second.now.wish) Rank-as-Rank-2.precedes) (state_of first.now) (state_of second.now) result first_row.new second_row.new }
+    ensures first { ShowAnswered (A.Blank.meaning first.now.blank) (order_of (V.Wish.ranked first.now.wish) V.Rank.Rank.precedes) (state_of first.now) result.first }
+    ensures second { ShowAnswered (B.Blank.meaning second.now.blank) (order_of (W.Wish.ranked second.now.wish) W.Rank.Rank.precedes) (state_of second.now) result.second }
+    ensures tells { RouteAnswered (A.Blank.meaning first.now.blank) (order_of (V.Wish.ranked first.now.wish) V.Rank.Rank.precedes) (state_of first.now) first_row.old result.first_route first_row.new }
+    ensures others { RouteAnswered (B.Blank.meaning second.now.blank) (order_of (W.Wish.ranked second.now.wish) W.Rank.Rank.precedes) (state_of second.now) second_row.old result.second_route second_row.new }
+    ensures agree { Agree (A.Blank.meaning first.now.blank) (B.Blank.meaning second.now.blank) (order_of (V.Wish.ranked first.now.wish) V.Rank.Rank.precedes) (order_of (W.Wish.ranked second.now.wish) W.Rank.Rank.precedes) (state_of first.now) (state_of second.now) result first_row.new second_row.new }
 {
     let first_shown = first.show();
     let second_shown = second.show();

@@ -23,7 +23,7 @@ fn tell<B: Blank, W: Wish>(
     last: &Last<B, W>,
     row: &mut [u32],
 ) -> Result<Reply, AllocError>
-    ensures does { IfOk result (λ x. Does (meaning last.now.blank) (order_of (ranked last.now.wish) Rank-as-Rank.precedes) (state_of last.now) (call_of 0 0 (length row.old) Order.Route) (answer_of x) (state_of last.now)) }
+    ensures does { IfOk result (λ x. Does (B.meaning last.now.blank) (order_of (W.ranked last.now.wish) W.Rank.Rank.precedes) (state_of last.now) (call_of 0 0 (length row.old) Order.Route) (answer_of x) (state_of last.now)) }
     ensures row { IfOk result (λ x. row.new ≡ written (answer_of x) row.old) }
 {
     match last.route(row) {
@@ -48,8 +48,8 @@ fn perform<B: Blank, W: Wish>(
     wishes: &mut [W::Rank],
     row: &mut [u32],
 ) -> Result<Reply, AllocError>
-    ensures does { IfOk result (λ x. AfterLives (meaning last.old.blank) (order_of (ranked last.old.wish) W.Rank.Rank.precedes) (state_of last.old)
-        (λ cs. Does (meaning last.old.blank) (order_of (ranked last.old.wish) W.Rank.Rank.precedes) (state_of last.old) (call_of (length costs.old) (length wishes.old) (length row.old) order) (answer_of x) (state_of last.new))) }
+    ensures does { IfOk result (λ x. AfterLives (B.meaning last.old.blank) (order_of (W.ranked last.old.wish) W.Rank.Rank.precedes) (state_of last.old)
+        (λ cs. Does (B.meaning last.old.blank) (order_of (W.ranked last.old.wish) W.Rank.Rank.precedes) (state_of last.old) (call_of (length costs.old) (length wishes.old) (length row.old) order) (answer_of x) (state_of last.new))) }
     ensures row { IfOk result (λ x. row.new ≡ written (answer_of x) row.old) }
     ensures ranks { IfOk result (λ x. NoWork (answer_of x) → (costs.new ≡ costs.old) × (wishes.new ≡ wishes.old)) }
     ensures blank { last.new.blank ≡ last.old.blank }
@@ -83,8 +83,8 @@ fn perform_each<B: Blank, W: Wish>(
     row: &mut [u32],
 ) -> Result<Vec<Reply>, AllocError>
     ensures every { IfOk result (λ v. length v.items ≡ length orders.now) }
-    ensures lives { IfOk result (λ v. AfterLives (meaning last.old.blank) (order_of (ranked last.old.wish) W.Rank.Rank.precedes) (state_of last.old)
-        (λ cs. Life (meaning last.old.blank) (order_of (ranked last.old.wish) W.Rank.Rank.precedes) (newest_first (map (call_of (length costs.old) (length wishes.old) (length row.old)) orders.now) (map answer_of v.items) cs) (state_of last.new))) }
+    ensures lives { IfOk result (λ v. AfterLives (B.meaning last.old.blank) (order_of (W.ranked last.old.wish) W.Rank.Rank.precedes) (state_of last.old)
+        (λ cs. Life (B.meaning last.old.blank) (order_of (W.ranked last.old.wish) W.Rank.Rank.precedes) (newest_first (map (call_of (length costs.old) (length wishes.old) (length row.old)) orders.now) (map answer_of v.items) cs) (state_of last.new))) }
     ensures row { IfOk result (λ v. row.new ≡ all_written (map answer_of v.items) row.old) }
     ensures ranks { IfOk result (λ v. AllByRecursion NoWork (map answer_of v.items) → (costs.new ≡ costs.old) × (wishes.new ≡ wishes.old)) }
     ensures blank { last.new.blank ≡ last.old.blank }
@@ -114,7 +114,7 @@ pub fn perform_all<B: Blank, W: Wish>(
     ensures idle { Idle result.0.bench.marks.items result.0.bench.path.items }
     ensures blank { result.0.blank ≡ blank }
     ensures wish { result.0.wish ≡ wish }
-    ensures lived { IfOk result.1 (λ v. Lived (meaning blank) (order_of (ranked wish) W.Rank.Rank.precedes) (map (call_of (length costs.old) (length wishes.old) (length row.old)) orders.now) (map answer_of v.items)) }
+    ensures lived { IfOk result.1 (λ v. Lived (B.meaning blank) (order_of (W.ranked wish) W.Rank.Rank.precedes) (map (call_of (length costs.old) (length wishes.old) (length row.old)) orders.now) (map answer_of v.items)) }
     ensures row { IfOk result.1 (λ v. row.new ≡ all_written (map answer_of v.items) row.old) }
     ensures ranks { IfOk result.1 (λ v. AllByRecursion NoWork (map answer_of v.items) → (costs.new ≡ costs.old) × (wishes.new ≡ wishes.old)) }
 {

@@ -15,9 +15,9 @@ impl<B: Blank, W: Wish> Last<B, W> {
     // What a wish is told of u, where u is in the focal set at the least sum.
     fn focal(&self, u: u32, least: u32) -> Option<Numbers>
         ensures { MatchOption result
-            ((g : ℕ) → Focal (meaning self.now.blank) (state_of self.now) least u g → ⊥)
-            (λ x. Focal (meaning self.now.blank) (state_of self.now) least u x.g
-            × (x ≡ numbers (meaning self.now.blank) (state_of self.now) least u x.g)) }
+            ((g : ℕ) → Focal (B.meaning self.now.blank) (state_of self.now) least u g → ⊥)
+            (λ x. Focal (B.meaning self.now.blank) (state_of self.now) least u x.g
+            × (x ≡ numbers (B.meaning self.now.blank) (state_of self.now) least u x.g)) }
     {
         let Some((g, h)) = self.live(u) else {
             return None;
@@ -39,11 +39,11 @@ impl<B: Blank, W: Wish> Last<B, W> {
 
     // The state of the focal set whose rank is first.
     pub(crate) fn choose(&self, row: &mut [W::Rank], least: u32) -> Option<u32>
-        ensures { Inside (meaning self.now.blank) (state_of self.now)
-            → (meaning self.now.blank).states ≤ length row.old
+        ensures { Inside (B.meaning self.now.blank) (state_of self.now)
+            → (B.meaning self.now.blank).states ≤ length row.old
             → MatchOption result
-            ((u g : ℕ) → Focal (meaning self.now.blank) (state_of self.now) least u g → ⊥)
-            (λ n. (g : ℕ) × Chosen (meaning self.now.blank) (order_of (ranked self.now.wish) W.Rank.Rank.precedes) (state_of self.now) least n g) }
+            ((u g : ℕ) → Focal (B.meaning self.now.blank) (state_of self.now) least u g → ⊥)
+            (λ n. (g : ℕ) × Chosen (B.meaning self.now.blank) (order_of (W.ranked self.now.wish) W.Rank.Rank.precedes) (state_of self.now) least n g) }
     {
         let mut queue = Queue::over(row);
         for u in 0..self.blank.states() {

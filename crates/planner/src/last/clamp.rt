@@ -21,7 +21,7 @@ pub struct Lifted<B, W> {
 impl<B: Blank, W: Wish> Last<B, W> {
     // A last over a blank under a wish: a life with no calls yet, whatever lay on the bench.
     pub fn clamp(mut bench: Bench, blank: B, wish: W) -> Last<B, W>
-        ensures life { Life (meaning blank) (order_of (ranked wish) Rank-as-Rank.precedes) [] (state_of result) }
+        ensures life { Life (B.meaning blank) (order_of (W.ranked wish) W.Rank.Rank.precedes) [] (state_of result) }
         ensures blank { result.blank ≡ blank }
         ensures wish { result.wish ≡ wish }
     {

@@ -16,7 +16,7 @@ impl<B: Blank, W: Wish> Last<B, W> {
     // What the cut from u to v costs.
     fn cut_cost(&self, u: u32, v: u32) -> u32
         ensures low { result ≤ 1000 }
-        ensures is { (c : ℕ) → Leads (meaning self.now.blank) u v c → result ≡ c }
+        ensures is { (c : ℕ) → Leads (B.meaning self.now.blank) u v c → result ≡ c }
     {
         for place in 0..self.blank.places(u) {
             if let Some((to, cost)) = self.blank.cut(u, place) {
@@ -32,7 +32,7 @@ impl<B: Blank, W: Wish> Last<B, W> {
     fn path_cost(&self, len: u32) -> u32
         requires { (1 ≤ len) × (len ≤ 1024) }
         ensures low { result ≤ 1024000 }
-        ensures is { (s w e : ℕ) → Walk (meaning self.now.blank) s w (take len self.now.bench.path.items) e → result ≡ e }
+        ensures is { (s w e : ℕ) → Walk (B.meaning self.now.blank) s w (take len self.now.bench.path.items) e → result ≡ e }
     {
         let mut cost = 0;
         let mut at = self.bench.step(0);
@@ -49,7 +49,7 @@ impl<B: Blank, W: Wish> Last<B, W> {
     fn arrive(&mut self, n: u32, v: u32, c: u32)
         requires { c ≤ 1000 }
         ensures stands { (path : List ℕ) (d : ℕ) → Chain (state_of self.old).mark n path → length path < 1024
-            → Walk (meaning self.old.blank) (meaning self.old.blank).start n path d
+            → Walk (B.meaning self.old.blank) (B.meaning self.old.blank).start n path d
             → state_of self.new ≡ stands (state_of self.old) (path ++ v ∷ []) (d + c) }
         ensures blank { self.new.blank ≡ self.old.blank }
         ensures wish { self.new.wish ≡ self.old.wish }
@@ -66,8 +66,8 @@ impl<B: Blank, W: Wish> Last<B, W> {
 
     // Tries one place of n, which was reached at g.
     fn try_place(&mut self, n: u32, g: u32, place: u32)
-        ensures tried { SoundMarks (meaning self.old.blank) (state_of self.old).mark → Within (state_of self.old).mark n g
-            → Tried (meaning self.old.blank) n g (slice_index_or ((meaning self.old.blank).places n) place nowhere) (state_of self.old) (state_of self.new) }
+        ensures tried { SoundMarks (B.meaning self.old.blank) (state_of self.old).mark → Within (state_of self.old).mark n g
+            → Tried (B.meaning self.old.blank) n g (slice_index_or ((B.meaning self.old.blank).places n) place nowhere) (state_of self.old) (state_of self.new) }
         ensures blank { self.new.blank ≡ self.old.blank }
         ensures wish { self.new.wish ≡ self.old.wish }
     {
@@ -93,8 +93,8 @@ impl<B: Blank, W: Wish> Last<B, W> {
 
     // Tries the places of n, which was reached at g, in order.
     pub(crate) fn expand(&mut self, n: u32, g: u32)
-        ensures cuts { During (meaning self.old.blank) n g ((meaning self.old.blank).places n) (state_of self.old)
-            → Cuts (meaning self.old.blank) n g ((meaning self.old.blank).places n) (state_of self.old) (state_of self.new) }
+        ensures cuts { During (B.meaning self.old.blank) n g ((B.meaning self.old.blank).places n) (state_of self.old)
+            → Cuts (B.meaning self.old.blank) n g ((B.meaning self.old.blank).places n) (state_of self.old) (state_of self.new) }
         ensures blank { self.new.blank ≡ self.old.blank }
         ensures wish { self.new.wish ≡ self.old.wish }
     {

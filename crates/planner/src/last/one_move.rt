@@ -22,14 +22,14 @@ impl<B: Blank, W: Wish> Last<B, W> {
         costs: &mut [CostRank],
         wishes: &mut [W::Rank],
     ) -> Option<Option<u32>>
-        ensures moves { Held (meaning self.old.blank) (state_of self.old)
-            → FoundLeast (meaning self.old.blank) (state_of self.old) least
-            → (meaning self.old.blank).states ≤ length costs.old
-            → (meaning self.old.blank).states ≤ length wishes.old
+        ensures moves { Held (B.meaning self.old.blank) (state_of self.old)
+            → FoundLeast (B.meaning self.old.blank) (state_of self.old) least
+            → (B.meaning self.old.blank).states ≤ length costs.old
+            → (B.meaning self.old.blank).states ≤ length wishes.old
             → self.old.moves < 4294967295
             → self.old.floor < limitOf (state_of self.old)
-            → MatchOption result ⊥ (λ next. Move (meaning self.old.blank) (order_of (ranked self.old.wish) W.Rank.Rank.precedes) (state_of self.old) (state_of self.new)
-            × FoundLeast (meaning self.old.blank) (state_of self.new) next) }
+            → MatchOption result ⊥ (λ next. Move (B.meaning self.old.blank) (order_of (W.ranked self.old.wish) W.Rank.Rank.precedes) (state_of self.old) (state_of self.new)
+            × FoundLeast (B.meaning self.old.blank) (state_of self.new) next) }
         ensures blank { self.new.blank ≡ self.old.blank }
         ensures wish { self.new.wish ≡ self.old.wish }
     {

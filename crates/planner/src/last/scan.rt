@@ -36,8 +36,8 @@ impl<B: Blank, W: Wish> Last<B, W> {
     // The cost at which u is live, and its estimate.
     pub(crate) fn live(&self, u: u32) -> Option<(u32, u32)>
         ensures { MatchOption result
-            ((g : ℕ) → Live (meaning self.now.blank) (state_of self.now) u g → ⊥)
-            (λ x. Live (meaning self.now.blank) (state_of self.now) u x.0 × (x.1 ≡ (meaning self.now.blank).estimate u)) }
+            ((g : ℕ) → Live (B.meaning self.now.blank) (state_of self.now) u g → ⊥)
+            (λ x. Live (B.meaning self.now.blank) (state_of self.now) u x.0 × (x.1 ≡ (B.meaning self.now.blank).estimate u)) }
     {
         let Mark::Open(reach) = self.bench.mark(u) else {
             return None;
@@ -52,8 +52,8 @@ impl<B: Blank, W: Wish> Last<B, W> {
 
     // The least sum of the live states, by looking at each: clamp and ceiling are lent no row.
     fn least(&self) -> Option<u32>
-        ensures { Inside (meaning self.now.blank) (state_of self.now)
-            → FoundLeast (meaning self.now.blank) (state_of self.now) result }
+        ensures { Inside (B.meaning self.now.blank) (state_of self.now)
+            → FoundLeast (B.meaning self.now.blank) (state_of self.now) result }
     {
         let mut best = None;
         for u in 0..self.blank.states() {
@@ -66,9 +66,9 @@ impl<B: Blank, W: Wish> Last<B, W> {
 
     // The least sum of the live states, by a queue of their cost ranks.
     pub(crate) fn least_queued(&self, row: &mut [CostRank]) -> Option<u32>
-        ensures { Inside (meaning self.now.blank) (state_of self.now)
-            → (meaning self.now.blank).states ≤ length row.old
-            → FoundLeast (meaning self.now.blank) (state_of self.now) result }
+        ensures { Inside (B.meaning self.now.blank) (state_of self.now)
+            → (B.meaning self.now.blank).states ≤ length row.old
+            → FoundLeast (B.meaning self.now.blank) (state_of self.now) result }
     {
         let mut queue = Queue::over(row);
         for u in 0..self.blank.states() {
@@ -88,8 +88,8 @@ impl<B: Blank, W: Wish> Last<B, W> {
 
     // Raises the floor to the least sum, or to the limit where no state is live.
     pub(crate) fn raise_to(&mut self, least: Option<u32>)
-        ensures raised { FoundLeast (meaning self.old.blank) (state_of self.old) least
-            → Raised (meaning self.old.blank) (state_of self.old) (state_of self.new) }
+        ensures raised { FoundLeast (B.meaning self.old.blank) (state_of self.old) least
+            → Raised (B.meaning self.old.blank) (state_of self.old) (state_of self.new) }
         ensures blank { self.new.blank ≡ self.old.blank }
         ensures wish { self.new.wish ≡ self.old.wish }
     {
@@ -103,8 +103,8 @@ impl<B: Blank, W: Wish> Last<B, W> {
 
     // Raises the floor by a scan.
     pub(crate) fn raise_floor(&mut self)
-        ensures raised { Inside (meaning self.old.blank) (state_of self.old)
-            → Raised (meaning self.old.blank) (state_of self.old) (state_of self.new) }
+        ensures raised { Inside (B.meaning self.old.blank) (state_of self.old)
+            → Raised (B.meaning self.old.blank) (state_of self.old) (state_of self.new) }
         ensures blank { self.new.blank ≡ self.old.blank }
         ensures wish { self.new.wish ≡ self.old.wish }
     {

@@ -28,7 +28,7 @@ impl<B: Blank, W: Wish> Last<B, W> {
         costs: &mut [CostRank],
         wishes: &mut [W::Rank],
     ) -> Result<Worked, Refusal>
-        ensures answer { WorkAnswered (meaning self.old.blank) (order_of (ranked self.old.wish) W.Rank.Rank.precedes) (state_of self.old) budget (length costs.old) (length wishes.old) result (state_of self.new) }
+        ensures answer { WorkAnswered (B.meaning self.old.blank) (order_of (W.ranked self.old.wish) W.Rank.Rank.precedes) (state_of self.old) budget (length costs.old) (length wishes.old) result (state_of self.new) }
         ensures untouched { OnErr result ((self.new ≡ self.old) × (costs.new ≡ costs.old) × (wishes.new ≡ wishes.old)) }
         ensures blank { self.new.blank ≡ self.old.blank }
         ensures wish { self.new.wish ≡ self.old.wish }

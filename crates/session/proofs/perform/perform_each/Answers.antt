@@ -26,7 +26,7 @@ loop-order-preserved g c =
       λ cs life.
           lives_more cs call c.args.orders.now c.loop-order.order-index _ (vec_items c.loop-order.replies) (vec_items c.push.new.self) c.in_ok-reply.reply
           (omega arith) c.loop-order.invariant.2 c.in_ok-push.ensures.items (c.loop-order.invariant.3 cs life)
-          (does_at _ c.in_ok-reply.reply (ap g.B.Blank.meaning c.loop-order.invariant.0) (ap (λ w. order_of (g.W.Wish.ranked w) g.Rank.Rank.precedes) c.loop-order.invariant.1) c.loop-order.auto.costs c.loop-order.auto.wishes c.loop-order.auto.row
+          (does_at _ c.in_ok-reply.reply (ap g.B.Blank.meaning c.loop-order.invariant.0) (ap (λ w. order_of (g.W.Wish.ranked w) g.W.Rank.Rank.precedes) c.loop-order.invariant.1) c.loop-order.auto.costs c.loop-order.auto.wishes c.loop-order.auto.row
           c.in_ok-reply.ensures.does _ (c.loop-order.invariant.3 cs life)),
       written_more (vec_items c.loop-order.replies) (vec_items c.push.new.self) c.in_ok-reply.reply c.args.row.now c.loop-order.row
           c.perform.new.row c.in_ok-push.ensures.items c.loop-order.invariant.4 c.in_ok-reply.ensures.row,
@@ -53,7 +53,7 @@ returns g c =
     let all : take c.loop-order.order-index c.args.orders.now ≡ c.args.orders.now = take_all c.loop-order.order-index c.args.orders.now (omega arith) in
     let call = call_of (length c.args.costs.now) (length c.args.wishes.now) (length c.args.row.now) in
     let L : List (Call × Answer) → List Order → Type 0 = λ cs os.
-    Life (g.B.Blank.meaning c.args.last.now.blank) (order_of (g.W.Wish.ranked c.args.last.now.wish) g.Rank.Rank.precedes) (newest_first (map call os) (map answer_of (vec_items c.loop-order.replies)) cs) (state_of c.loop-order.last) in
+    Life (g.B.Blank.meaning c.args.last.now.blank) (order_of (g.W.Wish.ranked c.args.last.now.wish) g.W.Rank.Rank.precedes) (newest_first (map call os) (map answer_of (vec_items c.loop-order.replies)) cs) (state_of c.loop-order.last) in
     record {
       every = omega (arith, c.loop-order.invariant.2);
       lives = λ cs life. subst (L cs) all (c.loop-order.invariant.3 cs life);

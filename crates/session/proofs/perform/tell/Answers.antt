@@ -17,7 +17,7 @@ returns-in_ok-states g c =
     let all : t.len - 0 ≡ t.len = omega arith in
     let items : states ≡ take t.len c.route.new.row = c.in_ok-states.ensures.items-if-clones-equal (λ x y e. e) ∙ ap (λ n. take n c.route.new.row) all in
     let D : List ℕ → Type 0 = λ l.
-    Does (g.B.Blank.meaning c.args.last.now.blank) (order_of (g.W.Wish.ranked c.args.last.now.wish) g.Rank.Rank.precedes) s (route (length c.args.row.now)) (told l t.cost t.floor) s in
+    Does (g.B.Blank.meaning c.args.last.now.blank) (order_of (g.W.Wish.ranked c.args.last.now.wish) g.W.Rank.Rank.precedes) s (route (length c.args.row.now)) (told l t.cost t.floor) s in
     record {
       does = subst D (sym items) c.in-Ok.ensures.does;
       row = written_front c.args.row.now c.route.new.row states t.len (sym items) (ap length items ∙ c.in-Ok.ensures.counted) c.in-Ok.ensures.rest;

@@ -24,7 +24,7 @@ pub loop-moves-preserved : goal.loop-moves-preserved
 loop-moves-preserved g c =
     let law = g.B.Blank.lawful c.args.self.now.blank in
     let R : Meaning → Order → Type 0 = λ m ord. Moves m ord (length c.loop-moves.costs) (length c.loop-moves.wishes) (state_of c.loop-moves.self) c.loop-moves.least (Some c.in-Some-one_move.next) (state_of c.one_move.new.self) in
-    let moves = subst₂ R (ap g.B.Blank.meaning c.loop-moves.invariant.0) (ap (λ w. order_of (g.W.Wish.ranked w) g.Rank.Rank.precedes) c.loop-moves.invariant.1) c.in-Some-one_move.ensures.moves in (
+    let moves = subst₂ R (ap g.B.Blank.meaning c.loop-moves.invariant.0) (ap (λ w. order_of (g.W.Wish.ranked w) g.W.Rank.Rank.precedes) c.loop-moves.invariant.1) c.in-Some-one_move.ensures.moves in (
       c.one_move.ensures.blank ∙ c.loop-moves.invariant.0,
       c.one_move.ensures.wish ∙ c.loop-moves.invariant.1,
       λ cs life.
@@ -63,7 +63,7 @@ pub returns-in_default-one_move : goal.returns-in_default-one_move
 returns-in_default-one_move g c =
     let law = g.B.Blank.lawful c.args.self.now.blank in
     let R : Meaning → Order → Type 0 = λ m ord. Moves m ord (length c.loop-moves.costs) (length c.loop-moves.wishes) (state_of c.loop-moves.self) c.loop-moves.least None (state_of c.one_move.new.self) in
-    let moves = subst₂ R (ap g.B.Blank.meaning c.loop-moves.invariant.0) (ap (λ w. order_of (g.W.Wish.ranked w) g.Rank.Rank.precedes) c.loop-moves.invariant.1) c.in_default-one_move.ensures.moves in
+    let moves = subst₂ R (ap g.B.Blank.meaning c.loop-moves.invariant.0) (ap (λ w. order_of (g.W.Wish.ranked w) g.W.Rank.Rank.precedes) c.loop-moves.invariant.1) c.in_default-one_move.ensures.moves in
     record {
       answer = accepted_work law (omega (arith, c.states-states.ensures)) (omega (arith, c.states-states.ensures)) (omega arith)
           (λ cs life.

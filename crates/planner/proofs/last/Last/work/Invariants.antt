@@ -10,6 +10,6 @@ abbrev pub invariant-loop-moves : goal.invariant-loop-moves
 invariant-loop-moves g l =
     (l.self.blank ≡ l.initial.self.blank)
     × (l.self.wish ≡ l.initial.self.wish)
-    × ((cs : List (Call × Answer)) → Life (g.B.Blank.meaning l.initial.self.blank) (order_of (g.W.Wish.ranked l.initial.self.wish) g.Rank.Rank.precedes) cs (state_of l.initial.self)
-    → Working (g.B.Blank.meaning l.initial.self.blank) (order_of (g.W.Wish.ranked l.initial.self.wish) g.Rank.Rank.precedes) (state_of l.initial.self) l.moves (state_of l.self)
+    × ((cs : List (Call × Answer)) → Life (g.B.Blank.meaning l.initial.self.blank) (order_of (g.W.Wish.ranked l.initial.self.wish) g.W.Rank.Rank.precedes) cs (state_of l.initial.self)
+    → Working (g.B.Blank.meaning l.initial.self.blank) (order_of (g.W.Wish.ranked l.initial.self.wish) g.W.Rank.Rank.precedes) (state_of l.initial.self) l.moves (state_of l.self)
     × FoundLeast (g.B.Blank.meaning l.initial.self.blank) (state_of l.self) l.least)

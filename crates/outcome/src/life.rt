@@ -25,7 +25,7 @@ fn perform_and_list<B: Blank + Drop>(
     blank: B,
     orders: &[Order],
 ) -> Result<String, AllocError>
-    ensures { IfOk result (λ s. PrintsOrders (meaning blank) orders.now (string_bytes s)) }
+    ensures { IfOk result (λ s. PrintsOrders (B.meaning blank) orders.now (string_bytes s)) }
 {
     let bench = Bench::new(heap)?;
     let mut costs = vec![in heap; CostRank { sum: 0, state: 0 }; ENTRIES]?;

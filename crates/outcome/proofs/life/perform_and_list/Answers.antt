@@ -21,5 +21,5 @@ returns g c =
     let lived = IfOk-at_ok _ c.in_ok-replies.was c.perform_all-lifted.ensures.lived in
     let L : List Reply → Type 0 = λ xs. IfOk c.lines_of.result (λ s. string_bytes s ≡ order_lines c.args.orders.now (map answer_of xs)) in
     printed_orders c.args.orders.now (vec_items replies) string_bytes c.lines_of.result
-    (omega (arith, c.as_mut_slice.ensures.len, c.in_ok-costs.ensures.made)) (omega (arith, c.as_mut_slice-2.ensures.len, c.in_ok-wishes.ensures.made)) (omega (arith, c.as_mut_slice-3.ensures.len, c.in_ok-row.ensures.made)) refl
+    (omega (arith, c.as_mut_slice.ensures.len, c.in_ok-costs.ensures.len)) (omega (arith, c.as_mut_slice-2.ensures.len, c.in_ok-wishes.ensures.len)) (omega (arith, c.as_mut_slice-3.ensures.len, c.in_ok-row.ensures.len)) refl
     lived (subst L c.as_slice.ensures.value c.lines_of.ensures)

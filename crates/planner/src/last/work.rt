@@ -22,7 +22,7 @@ const MOST_MOVES: u32 = 65535;
 
 impl<B: Blank, W: Wish> Last<B, W> {
     // Moves until the search is done, the ratio is met or the budget is spent; or refuses.
-    pub fn work(
+    pub(crate) fn work(
         &mut self,
         budget: u32,
         costs: &mut [CostRank],

@@ -1,5 +1,5 @@
 -- What the calls of a queue do to its row. A queue holds the first n entries of a row; row and n are as a call begins, row' and n' as it ends.
--- In which order the held ranks stand is left open: `Shuffled`, of std, says that two lists have the same elements, repeats counted.
+-- In which order the held ranks stand is left open: `IsPermutation`, of std, says that two lists have the same elements, repeats counted.
 use Rattle.std.specs.Prelude.{◌≡◌, ℕ, ◌+◌, ◌<◌, ◌≤◌, Bool, true, List, [], ◌∷◌, ◌++◌, length, take, drop, ◌≢◌, slice_index_or}
 use Rattle.std.specs.List.Sorted.{IsPermutation}
 

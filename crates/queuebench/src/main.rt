@@ -1,5 +1,5 @@
 // queuebench puts, strikes and takes ranks at 64 and at 1,024 entries, and prints how many. It prints no times: to measure, run
-// `rt check queuebench` and then `time target/bin/queuebench`. It stands on queue, rank and course.
+// `rt run` in this folder, and then `time out/queuebench`. It stands on queue, rank and course.
 #![tactic(auto)]
 
 use queue::Queue;

@@ -12,7 +12,7 @@ const D: Kind = Kind::Digit;
 
 const O: Kind = Kind::Outside;
 
-// The byte's own number is its place in the table, sixteen to a line.
+// The byte's own number is its place in the table, thirty-two to a line.
 const KINDS: [Kind; 256] = [
     O, O, O, O, O, O, O, O, O, O, S, O, O, O, O, O, O, O, O, O, O, O, O, O, O, O, O, O, O, O, O, O,
     S, O, O, O, O, O, O, O, S, S, O, O, O, O, O, O, D, D, D, D, D, D, D, D, D, D, O, O, O, O, O, O,

@@ -39,7 +39,7 @@ pub record Full (bs : List ℕ) : Type 0 where
   pub all : total whole + length begun ≡ 8192
   pub is : head.rest ≡ lines_text 0 whole ++ (filled (from (length whole)) [] ++ (bare_cuts begun ++ filled (space ∷ []) []))
 
--- The bytes begin with the digits ds, one or more, and no digit follows these. (Where nothing follows, `get_or` gives 0, which is no digit.)
+-- The bytes begin with the digits ds, one or more, and no digit follows these. (Where nothing follows, `slice_index` gives 0, which is no digit.)
 pub record Run (ds bs : List ℕ) : Type 0 where
   pub some : 0 < length ds
   pub digits : AllByRecursion (λ b. is_digit b ≡ true) ds

@@ -39,7 +39,7 @@ abbrev pub figures : List ℕ → Mark
 figures ds = cond (badly_written ds) (bad 2) (number (digits_value 10 ds))
 
 -- The mark that begins with b, by the kind of b, where bs are all the bytes left, b the first of them. A word is the longest run of letters
--- and a number the longest run of digits (`leading` counts the bytes of the longest front that passes).
+-- and a number the longest run of digits (`prefix_len` counts the bytes of the longest front that passes).
 abbrev pub mark_of : Kind → ℕ → List ℕ → Mark
 mark_of Single b bs = sign b
 mark_of Letter b bs = word (take (prefix_len is_letter bs) bs)

@@ -1,7 +1,9 @@
 #!/usr/bin/env python3
 """Respells the repository's own definitions, fields and lemmas as today's Rattle spells names: words in snake case, types in camel case.
 
-usage: python3 tools/respell.py            at the top of the repository, once, after port.py
+usage: python3 tools/respell.py            at the top of the repository, once, after the toolchain's port.py
+
+It has been run, in the commit that docs/PORT.md names second, and is kept so that the step can be repeated there. Do not run it again.
 
 Which names are the repository's own is read from the declarations of specs/ and proofs/. A name with a dash, or a word with a capital inside, is
 turned wherever it stands as a name: in .antt files, in .rt files and in must-fail edits, but not in strings, nor in comments outside backquotes.

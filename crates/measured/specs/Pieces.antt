@@ -10,7 +10,7 @@ use Rattle.tableblank.specs.Tabled.{tabled}
 use Rattle.layers.specs.Rounded.{rounded}
 use Rattle.raster.specs.Rastered.{rastered}
 use Rattle.rank.specs.declared.share.ShareRank.{ShareRank}
-use Rattle.rank.specs.contracts.share.ShareRankRank.TheImpl.{ghosts as share-ranks}
+use Rattle.rank.specs.contracts.share.ShareRankRank.TheImpl.{ghosts as share_ranks}
 use Rattle.measured.specs.Moved.{Measured}
 
 -- The rows of P, with an estimate h for its start.
@@ -46,8 +46,8 @@ two_lines = rastered (2 ∷ 9 ∷ 2 ∷ 2 ∷ 2 ∷ 2 ∷ []) 3 2 0 2
 
 -- Of two share ranks the first goes before the second: it is no later, and the second is not.
 pub record GoesBefore (a b : ShareRank) : Type 0 where
-  pub no_later : share-ranks.precedes a b ≡ true
-  pub later : share-ranks.precedes b a ≡ false
+  pub no_later : share_ranks.precedes a b ≡ true
+  pub later : share_ranks.precedes b a ≡ false
 
 pub record PiecesMeasured : Type 0 where
   -- P under a ceiling: at 69 no route is left, and at 70 the one that costs 70 is found

@@ -1,6 +1,6 @@
 // One move, and the look before it.
 ghost use Rattle.std.specs.Prelude.{◌≡◌, ℕ, ◌+◌, ◌*◌, ◌<◌, ◌≤◌, true, false, length, MatchOption};
-ghost use Rattle.course.specs.Machine.{limit as limitOf, Move};
+ghost use Rattle.course.specs.Machine.{limit as state_limit, Move};
 ghost use Rattle.course.specs.Calls.{Finished, Met as Near};
 ghost use Rattle.course.proofs.Floor.{Held};
 ghost use Rattle.wish.specs.Wished.{order_of};
@@ -27,7 +27,7 @@ impl<B: Blank, W: Wish> Last<B, W> {
             → (B.meaning self.old.blank).states ≤ length costs.old
             → (B.meaning self.old.blank).states ≤ length wishes.old
             → self.old.moves < 4294967295
-            → self.old.floor < limitOf (state_of self.old)
+            → self.old.floor < state_limit (state_of self.old)
             → MatchOption result ⊥ (λ next. Move (B.meaning self.old.blank) (order_of (W.ranked self.old.wish) W.Rank.Rank.precedes) (state_of self.old) (state_of self.new)
             × FoundLeast (B.meaning self.old.blank) (state_of self.new) next) }
         ensures blank { self.new.blank ≡ self.old.blank }

@@ -1,6 +1,6 @@
 // What the marks say of one state, and of all: the live states, the least sum and the floor.
 ghost use Rattle.std.specs.Prelude.{◌≡◌, ℕ, ◌+◌, ◌<◌, ◌≤◌, min, length, MatchOption};
-ghost use Rattle.course.specs.Machine.{limit as limitOf, Live, Raised};
+ghost use Rattle.course.specs.Machine.{limit as state_limit, Live, Raised};
 ghost use Rattle.planner.specs.Lasts.{state_of};
 ghost use Rattle.planner.specs.Scans.{Inside, FoundLeast};
 
@@ -24,7 +24,7 @@ fn lesser(first: Option<u32>, sum: u32) -> u32
 impl<B: Blank, W: Wish> Last<B, W> {
     // Only a route that costs less is still looked for.
     pub(crate) fn limit(&self) -> u32
-        ensures { result ≡ limitOf (state_of self.now) }
+        ensures { result ≡ state_limit (state_of self.now) }
     {
         let over = self.ceiling + 1;
         match self.standing {

@@ -4,12 +4,12 @@ use Rattle.std.specs.Str.{bytes_eq}
 use Rattle.std.proofs.lemmas.Slice.Eq.{bytes_eq-Decides}
 use Rattle.std.proofs.lemmas.List.{drop-drop}
 use Rattle.text.specs.Marks.{Mark, next, width}
-use Rattle.text.specs.Forms as rules
+use Rattle.text.specs.Forms as forms
 use Rattle.text.specs.Forms.{got, meets, keeps, follow}
 use Rattle.text.proofs.Forms.{follow_step}
 
 pub met_one :
-    (w : rules.Want) (xs : List ℕ) (at stop : ℕ) (m : Mark)
+    (w : forms.Want) (xs : List ℕ) (at stop : ℕ) (m : Mark)
     → m ≡ next (drop at xs) → stop ≡ at + width (drop at xs) → meets w m ≡ true → follow (w ∷ []) at (drop at xs) ≡ got (keeps w m []) stop (drop stop xs)
 met_one w xs at stop m e l t =
     let n = width (drop at xs) in

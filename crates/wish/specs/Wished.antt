@@ -2,8 +2,6 @@
 use Rattle.std.specs.Prelude.{ℕ, ◌-◌, min, Bool}
 use Rattle.course.specs.declared.machine.Numbers.{Numbers}
 use Rattle.course.specs.Machine.{Order}
-use Rattle.rank.specs.declared.share.ShareRank.{ShareRank}
-use Rattle.rank.specs.Orders.{by_state, no_smaller_share}
 
 -- The order of a wish, from the ranks that it gives and the order of these: whether the first of two sets of numbers ranks no later than the
 -- second.
@@ -13,9 +11,3 @@ order_of ranked precedes a b = precedes (ranked a) (ranked b)
 -- An over: a − b, taken exactly and then cut off at 0 and at 4,294,967,295, the greatest number of 32 bits.
 abbrev pub cut_off : ℕ → ℕ → ℕ
 cut_off a b = min (a - b) 4294967295
-
--- The order of the wish quick: the larger share (limit − g)/h first, then the smaller state.
-abbrev pub quick_order : Order
-quick_order =
-    order_of (λ n. record { over = cut_off n.limit n.g; under = n.h; state = n.state })
-    (by_state (λ (x y : ShareRank). no_smaller_share x.over x.under y.over y.under) (λ x. x.state))

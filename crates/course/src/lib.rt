@@ -14,50 +14,36 @@ pub use machine::{Mark, Numbers, Reach, Word};
 pub use refusal::Refusal;
 
 // After every list of calls the floor is under every route, a standing route is a route at its cost, and the moves are few and are those told.
-pub fn lives_are_sound() -> u8
+pub fn lives_are_sound()
     ensures { LivesSound }
-{
-    0
-}
+{}
 
 // What done, met and spent mean, and how they keep to the budget.
-pub fn words_are_meant() -> u8
+pub fn words_are_meant()
     ensures { WordsMeant }
-{
-    0
-}
+{}
 
 // Every answer of every life means what it says: what show and route tell is so, and the words of work are meant.
-pub fn answers_are_true() -> u8
+pub fn answers_are_true()
     ensures { AnswersTrue }
-{
-    0
-}
+{}
 
 // Two lives with the same settings at the same moves, and as many moves, answer show and route alike.
-pub fn lives_agree() -> u8
+pub fn lives_agree()
     ensures { LivesAgree }
-{
-    0
-}
+{}
 
 // After every list of calls, every call whatever has an answer and a state that it leaves, and only one.
-pub fn calls_are_answered() -> u8
+pub fn calls_are_answered()
     ensures { CallsAnswered }
-{
-    0
-}
+{}
 
 // Every lawful blank can be clamped with every wish, and clamping leaves one state.
-pub fn clamping_begins() -> u8
+pub fn clamping_begins()
     ensures { ClampingBegins }
-{
-    0
-}
+{}
 
 // The worked blank P of docs/SEARCH.md is lawful, and a last over it answers the eight calls as that page says.
-pub fn p_answers_as_worked() -> u8
+pub fn p_answers_as_worked()
     ensures { WorkedOut }
-{
-    0
-}
+{}

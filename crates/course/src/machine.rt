@@ -1,12 +1,12 @@
 // The cost by which a state was reached, and (the start excepted) the state it was reached from.
-#[derive(Clone, Copy)]
+#[derive(Clone, Copy, PartialEq, Eq, Debug)]
 pub struct Reach {
     pub g: u32,
     pub from: Option<u32>,
 }
 
 // A state of the blank is unseen, open (on the frontier) or closed.
-#[derive(Clone, Copy)]
+#[derive(Clone, Copy, PartialEq, Eq, Debug)]
 pub enum Mark {
     Unseen,
     Open(Reach),
@@ -14,7 +14,7 @@ pub enum Mark {
 }
 
 // The numbers that a wish ranks: those of one open state, and the settings they stand under.
-#[derive(Clone, Copy)]
+#[derive(Clone, Copy, PartialEq, Eq, Debug)]
 pub struct Numbers {
     pub state: u32,
     pub g: u32,
@@ -26,7 +26,7 @@ pub struct Numbers {
 }
 
 // How an accepted work ends.
-#[derive(Clone, Copy)]
+#[derive(Clone, Copy, PartialEq, Eq, Debug)]
 pub enum Word {
     Done,
     Met,

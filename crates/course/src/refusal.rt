@@ -1,51 +1,51 @@
 ghost use Rattle.std.specs.Prelude.{◌≡◌};
 ghost use Rattle.course.specs.Refusals.{number_of};
 
-// Why the planner refuses a text, a blank or a call. A refusal alters nothing.
+// Why the planner refuses a text, a blank or a call, and the number by which it is told. A refusal alters nothing.
 #[derive(Clone, Copy, PartialEq, Eq, Debug)]
 pub enum Refusal {
     // a byte outside the set
-    ByteOutside,
+    ByteOutside = 1,
     // a number badly written
-    NumberBadlyWritten,
+    NumberBadlyWritten = 2,
     // a mark that is not wanted where it stands
-    MarkUnwanted,
+    MarkUnwanted = 3,
     // a text with too many bytes or too many cuts
-    TextTooLong,
+    TextTooLong = 4,
     // rows, or the bytes of a raster, that do not fit together
-    WrongShape,
+    WrongShape = 5,
     // a start or goal that is no state, or the two equal; of a raster also one that is kept wood
-    BadEnds,
+    BadEnds = 6,
     // a target that is no state, the cut's own state, or out of order
-    BadTarget,
+    BadTarget = 7,
     // a cost that is not 1 to 1,000
-    BadCost,
+    BadCost = 8,
     // an estimate over 1,023,000, or a goal's estimate that is not 0
-    BadEstimate,
+    BadEstimate = 9,
     // an estimate above the cost of a cut and the estimate behind it
-    SteepEstimate,
+    SteepEstimate = 10,
     // a knot that is no state, or is the start or the goal
-    KnotBarred,
+    KnotBarred = 11,
     // a rounding step that is not 1 to 1,000
-    BadStep,
+    BadStep = 12,
     // a ratio outside its rule
-    BadRatio,
+    BadRatio = 13,
     // a row too short for the states, or for the route that stands
-    RowTooShort,
+    RowTooShort = 15,
     // a budget over 65,535
-    BudgetTooLarge,
+    BudgetTooLarge = 18,
     // no route stands
-    NoRoute,
+    NoRoute = 31,
     // a ceiling above the present one
-    CeilingRaised,
+    CeilingRaised = 36,
     // a knot that is marked already
-    KnotMarked,
+    KnotMarked = 37,
     // as many knots as may stand
-    KnotsFull,
+    KnotsFull = 38,
     // a queue whose row is full
-    QueueFull,
+    QueueFull = 39,
     // a queue that holds nothing
-    QueueEmpty,
+    QueueEmpty = 40,
 }
 
 impl Refusal {
@@ -53,28 +53,6 @@ impl Refusal {
     pub fn number(self) -> u32
         ensures { result ≡ number_of self }
     {
-        match self {
-            Refusal::ByteOutside => 1,
-            Refusal::NumberBadlyWritten => 2,
-            Refusal::MarkUnwanted => 3,
-            Refusal::TextTooLong => 4,
-            Refusal::WrongShape => 5,
-            Refusal::BadEnds => 6,
-            Refusal::BadTarget => 7,
-            Refusal::BadCost => 8,
-            Refusal::BadEstimate => 9,
-            Refusal::SteepEstimate => 10,
-            Refusal::KnotBarred => 11,
-            Refusal::BadStep => 12,
-            Refusal::BadRatio => 13,
-            Refusal::RowTooShort => 15,
-            Refusal::BudgetTooLarge => 18,
-            Refusal::NoRoute => 31,
-            Refusal::CeilingRaised => 36,
-            Refusal::KnotMarked => 37,
-            Refusal::KnotsFull => 38,
-            Refusal::QueueFull => 39,
-            Refusal::QueueEmpty => 40,
-        }
+        self as u32
     }
 }

@@ -5,14 +5,13 @@
 use anyhow::anyhow;
 use blank::Blank;
 use layers::{Knots, Rounding};
-use raster::{Laying, Raster};
+use raster::{Cells, Raster};
 use table::TableRows;
-use tableblank::Making;
+use tableblank::Table;
 
 // One state: its estimate, and its places.
 fn list_state<B: Blank>(rt: &HostRuntime, blank: &B, state: u32) -> anyhow::Result<()> {
-    let estimate = blank.estimate(state);
-    println!(rt; "state {state} estimate {estimate}")?;
+    println!(rt; "state {state} estimate {}", blank.estimate(state))?;
     for place in 0..blank.places(state) {
         match blank.cut(state, place) {
             Some((to, cost)) => println!(rt; "  place {place} to {to} at {cost}")?,
@@ -24,11 +23,13 @@ fn list_state<B: Blank>(rt: &HostRuntime, blank: &B, state: u32) -> anyhow::Resu
 
 // A whole blank.
 fn list<B: Blank>(rt: &HostRuntime, name: &str, blank: &B) -> anyhow::Result<()> {
-    let states = blank.states();
-    let start = blank.start();
-    let goal = blank.goal();
-    println!(rt; "{name}: {states} states, from {start} to {goal}")?;
-    for state in 0..states {
+    println!(rt;
+        "{name}: {} states, from {} to {}",
+        blank.states(),
+        blank.start(),
+        blank.goal()
+    )?;
+    for state in 0..blank.states() {
         list_state(rt, blank, state)?;
     }
     Ok(())
@@ -36,39 +37,43 @@ fn list<B: Blank>(rt: &HostRuntime, name: &str, blank: &B) -> anyhow::Result<()>
 
 // Four states: 0 leads to 1 and 2, and both lead to the goal 3.
 fn list_table(rt: &HostRuntime) -> anyhow::Result<()> {
-    let making = Making::over(TableRows {
+    let rows = TableRows {
         firsts: &[0, 2, 3, 4, 4],
         targets: &[1, 2, 3, 3],
         costs: &[30, 50, 60, 20],
         estimates: &[40, 10, 20, 0],
         start: 0,
         goal: 3,
-    });
-    match making.get() {
-        Ok(table) => list(rt, "table", table),
-        Err(_) => Err(anyhow!("the table is refused")),
-    }
+    };
+    let Ok(table) = Table::over(rows) else {
+        return Err(anyhow!("the table is refused"));
+    };
+    list(rt, "table", &table)
 }
 
 // The raster under two layers: one cell is a knot, and estimates are multiples of 4.
 fn list_pile(rt: &HostRuntime, raster: &Raster<'_>) -> anyhow::Result<()> {
     let knots = Knots::over(raster).mark(5);
-    match Rounding::over(knots, 4) {
-        Ok(pile) => list(rt, "rounding over knots over raster", &pile),
-        Err(_) => Err(anyhow!("the step is refused")),
-    }
+    let Ok(pile) = Rounding::over(knots, 4) else {
+        return Err(anyhow!("the step is refused"));
+    };
+    list(rt, "rounding over knots over raster", &pile)
 }
 
 // Three lines of four cells, one of them kept wood.
 fn list_raster(rt: &HostRuntime) -> anyhow::Result<()> {
-    let laying = Laying::over(&[2, 9, 2, 2, 2, 2, 0, 2, 3, 2, 2, 2], 4, 3, 0, 3);
-    match laying.get() {
-        Ok(raster) => {
-            list(rt, "raster", raster)?;
-            list_pile(rt, raster)
-        }
-        Err(_) => Err(anyhow!("the raster is refused")),
-    }
+    let cells = Cells {
+        bytes: &[2, 9, 2, 2, 2, 2, 0, 2, 3, 2, 2, 2],
+        width: 4,
+        height: 3,
+        start: 0,
+        goal: 3,
+    };
+    let Ok(raster) = Raster::over(cells) else {
+        return Err(anyhow!("the raster is refused"));
+    };
+    list(rt, "raster", &raster)?;
+    list_pile(rt, &raster)
 }
 
 fn run(rt: &HostRuntime) -> anyhow::Result<()> {

@@ -1,8 +1,9 @@
-ghost use Rattle.std.specs.Prelude.{◌≡◌, ◌+◌, ◌<◌, length, None, Decides};
-ghost use Rattle.table.specs.Table.{states, Shape, Ends, Holds, GoodTarget, GoodCost, GoodEstimate, GoodSlope, Bad};
-ghost use Rattle.table.specs.Checks.{rows_in, Checked, WholeChecked, Rising, First, Lapse};
+ghost use Rattle.std.specs.Prelude.{◌≡◌, ◌+◌, ◌<◌, length, Decides};
+ghost use Rattle.table.specs.Table.{states, Shape, Ends, GoodCost, GoodEstimate, Bad};
+ghost use Rattle.table.specs.Checks.{rows_in, Checked, Stepped, Rising, First};
 
-use crate::flaw::Flaw;
+use crate::cuts::{Aimed, Whole};
+use crate::flaw::{Flaw, absent};
 use course::Refusal;
 
 // How many states and how many cuts a table may have, and how large its costs and estimates may be.
@@ -30,18 +31,29 @@ pub struct TableRows<'a> {
     pub goal: u32,
 }
 
-impl TableRows<'_> {
+impl<'a> TableRows<'a> {
     // Nothing, or the smallest cause that applies, with its least bad place.
     pub fn check(&self) -> Result<(), Flaw>
         ensures { Checked (rows_in self.now) result }
     {
-        self.check_whole()?;
-        self.check_parts()
+        let aimed = self.aimed()?;
+        absent(Refusal::BadCost, self.first_bad_cost())?;
+        absent(Refusal::BadEstimate, self.first_bad_estimate())?;
+        absent(Refusal::SteepEstimate, aimed.first_steep_estimate())
     }
 
-    // The causes that mean the whole: the shape of the rows, and the ends.
-    fn check_whole(&self) -> Result<(), Flaw>
-        ensures { WholeChecked (rows_in self.now) result }
+    // These rows, once they are whole and no target is bad.
+    fn aimed(&self) -> Result<Aimed<'a>, Flaw>
+        ensures { Stepped (rows_in self.now) (λ a. rows_in a.whole.rows) result }
+    {
+        let whole = self.whole()?;
+        absent(Refusal::BadTarget, whole.first_bad_target())?;
+        Ok(Aimed { whole })
+    }
+
+    // These rows, once no cause applies that means the whole: they fit together, and have two ends.
+    fn whole(&self) -> Result<Whole<'a>, Flaw>
+        ensures { Stepped (rows_in self.now) (λ w. rows_in w.rows) result }
     {
         if !self.fits_together() {
             return Err(Flaw {
@@ -55,40 +67,7 @@ impl TableRows<'_> {
                 place: 0,
             });
         }
-        Ok(())
-    }
-
-    // The causes that mean one entry or one state.
-    fn check_parts(&self) -> Result<(), Flaw>
-        requires shaped { Shape (rows_in self.now) }
-        requires apart { Ends (rows_in self.now) }
-        ensures { Checked (rows_in self.now) result }
-    {
-        if let Some(place) = self.first_bad_target() {
-            return Err(Flaw {
-                cause: Refusal::BadTarget,
-                place,
-            });
-        }
-        if let Some(place) = self.first_bad_cost() {
-            return Err(Flaw {
-                cause: Refusal::BadCost,
-                place,
-            });
-        }
-        if let Some(place) = self.first_bad_estimate() {
-            return Err(Flaw {
-                cause: Refusal::BadEstimate,
-                place,
-            });
-        }
-        if let Some(place) = self.first_steep_estimate() {
-            return Err(Flaw {
-                cause: Refusal::SteepEstimate,
-                place,
-            });
-        }
-        Ok(())
+        Ok(Whole { rows: *self })
     }
 
     // Whether the lengths of the rows go together, and `firsts` cuts the entries up among the states.
@@ -96,27 +75,23 @@ impl TableRows<'_> {
         ensures { Decides result (Shape (rows_in self.now)) }
     {
         let n = self.estimates.len();
-        if n < LEAST_STATES || n > MOST_STATES || self.firsts.len() != n + 1 {
-            return false;
-        }
         let cuts = self.targets.len();
-        if cuts != self.costs.len() || cuts > MOST_CUTS {
-            return false;
-        }
-        self.firsts[0] == 0 && self.firsts[n] as usize == cuts && self.rises()
+        (LEAST_STATES..=MOST_STATES).contains(&n)
+            && self.firsts.len() == n + 1
+            && cuts == self.costs.len()
+            && cuts <= MOST_CUTS
+            && self.firsts[0] == 0
+            && self.firsts[n] as usize == cuts
+            && self.rises()
     }
 
     // Whether `firsts` never falls.
+    #[tactic(auto, using(crate::proofs::Firsts::sorted_rises))]
     fn rises(&self) -> bool
         requires { length (rows_in self.now).firsts ≡ states (rows_in self.now) + 1 }
         ensures { Decides result (Rising (rows_in self.now)) }
     {
-        for u in 0..self.estimates.len() {
-            if self.firsts[u] > self.firsts[u + 1] {
-                return false;
-            }
-        }
-        true
+        self.firsts.is_sorted()
     }
 
     // Whether start and goal are two states.
@@ -127,47 +102,7 @@ impl TableRows<'_> {
         (self.start as usize) < n && (self.goal as usize) < n && self.start != self.goal
     }
 
-    // The first entry whose target is bad.
-    fn first_bad_target(&self) -> Option<usize>
-        requires { Shape (rows_in self.now) }
-        ensures { First (Bad (rows_in self.now) 7) result }
-    {
-        for u in 0..self.estimates.len() {
-            if let Some(e) = self.first_bad_target_of(u) {
-                return Some(e);
-            }
-        }
-        None
-    }
-
-    // The first entry of state u whose target is bad.
-    fn first_bad_target_of(&self, u: usize) -> Option<usize>
-        requires shaped { Shape (rows_in self.now) }
-        requires state { u < states (rows_in self.now) }
-        ensures { First (Lapse (rows_in self.now) (GoodTarget (rows_in self.now)) u) result }
-    {
-        for e in self.firsts[u] as usize..self.firsts[u + 1] as usize {
-            if !self.is_good_target(u, e) {
-                return Some(e);
-            }
-        }
-        None
-    }
-
-    // Whether the cut at entry e of state u leads to another state, above the target before it in the same state.
-    fn is_good_target(&self, u: usize, e: usize) -> bool
-        requires shaped { Shape (rows_in self.now) }
-        requires cut { Holds (rows_in self.now) u e }
-        ensures { Decides result (GoodTarget (rows_in self.now) u e) }
-    {
-        let target = self.targets[e] as usize;
-        if target >= self.estimates.len() || target == u {
-            return false;
-        }
-        e == self.firsts[u] as usize || (self.targets[e - 1] as usize) < target
-    }
-
-    // The first entry whose cost is bad.
+    // The first entry whose cost is bad. This one check stays a loop over the slice with its index, as a rule of the project has it.
     fn first_bad_cost(&self) -> Option<usize>
         ensures { First (Bad (rows_in self.now) 8) result }
     {
@@ -184,12 +119,7 @@ impl TableRows<'_> {
     fn first_bad_estimate(&self) -> Option<usize>
         ensures { First (Bad (rows_in self.now) 9) result }
     {
-        for s in 0..self.estimates.len() {
-            if !self.is_good_estimate(s) {
-                return Some(s);
-            }
-        }
-        None
+        (0..self.estimates.len()).find(|s| !self.is_good_estimate(*s))
     }
 
     // Whether the estimate of state s is not too large, and 0 at the goal.
@@ -200,53 +130,13 @@ impl TableRows<'_> {
         let estimate = self.estimates[s];
         estimate <= MOST_ESTIMATE && (s != self.goal as usize || estimate == 0)
     }
-
-    // The first entry where the state's estimate is too steep. It is sought once every target is good, so that each cut leads to a state.
-    fn first_steep_estimate(&self) -> Option<usize>
-        requires shaped { Shape (rows_in self.now) }
-        requires aimed { First (Bad (rows_in self.now) 7) None }
-        ensures { First (Bad (rows_in self.now) 10) result }
-    {
-        for u in 0..self.estimates.len() {
-            if let Some(e) = self.first_steep_estimate_of(u) {
-                return Some(e);
-            }
-        }
-        None
-    }
-
-    // The first entry of state u where its estimate is too steep.
-    fn first_steep_estimate_of(&self, u: usize) -> Option<usize>
-        requires shaped { Shape (rows_in self.now) }
-        requires aimed { First (Bad (rows_in self.now) 7) None }
-        requires state { u < states (rows_in self.now) }
-        ensures { First (Lapse (rows_in self.now) (GoodSlope (rows_in self.now)) u) result }
-    {
-        for e in self.firsts[u] as usize..self.firsts[u + 1] as usize {
-            if !self.is_good_slope(u, e) {
-                return Some(e);
-            }
-        }
-        None
-    }
-
-    // Whether the estimate of state u is at most the cost of its cut at entry e and the estimate behind it: else it is too steep.
-    fn is_good_slope(&self, u: usize, e: usize) -> bool
-        requires shaped { Shape (rows_in self.now) }
-        requires aimed { First (Bad (rows_in self.now) 7) None }
-        requires cut { Holds (rows_in self.now) u e }
-        ensures { Decides result (GoodSlope (rows_in self.now) u e) }
-    {
-        let behind = self.estimates[self.targets[e] as usize];
-        self.estimates[u] as u64 <= self.costs[e] as u64 + behind as u64
-    }
 }
 
 // Whether a cost lies within its bounds.
 fn is_good_cost(cost: u32) -> bool
     ensures { Decides result (GoodCost cost) }
 {
-    LEAST_COST <= cost && cost <= MOST_COST
+    (LEAST_COST..=MOST_COST).contains(&cost)
 }
 
 #[cfg(test)]

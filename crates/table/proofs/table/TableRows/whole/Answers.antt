@@ -1,7 +1,7 @@
 use Rattle.std.proofs.Common.{refl}
 use Rattle.std.proofs.lemmas.Bool.Decides.{not_from_Decides}
 use Rattle.table.proofs.Causes.{worst_shape, worst_ends}
-use Rattle.table.proofs.table.TableRows.check_whole.Goals as goal
+use Rattle.table.proofs.table.TableRows.whole.Goals as goal
 
 pub returns-then-not-fits_together : goal.returns-then-not-fits_together
 returns-then-not-fits_together c = worst_shape _ (not_from_Decides _ c.fits_together.ensures c.if-not-fits_together.true)

@@ -1,8 +1,0 @@
-use Rattle.std.proofs.Common.{ℕ}
-use Rattle.table.specs.Table.{GoodSlope}
-use Rattle.table.specs.Checks.{rows_in, Lapse}
-use Rattle.table.proofs.Firsts.{Clear}
-use Rattle.table.proofs.table.TableRows.first_steep_estimate.Given as goal
-
-abbrev pub invariant-loop-u : goal.invariant-loop-u
-invariant-loop-u l = Clear (λ v. (k : ℕ) × Lapse (rows_in l.self) (GoodSlope (rows_in l.self)) v k) l.u

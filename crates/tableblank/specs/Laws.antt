@@ -1,10 +1,10 @@
 -- Rows that pass the checks spell a lawful blank. The table carries this proof, so it stands here and not among the proofs.
-use Rattle.std.specs.Prelude.{◌≡◌, ℕ, zero, suc, ◌+◌, ◌-◌, ◌<◌, ◌≤◌, List, [], length, get_or, Some, None, slice_index, slice_index_or, refl}
+use Rattle.std.specs.Prelude.{◌≡◌, ℕ, zero, suc, ◌+◌, ◌-◌, ◌<◌, ◌≤◌, List, length, get_or, Some, None, slice_index, slice_index_or, refl}
 use Rattle.std.proofs.Common.{sym, ap, ◌∙◌, inl, inr, arith}
 use Rattle.std.proofs.lemmas.List.{get_or_past}
 use Rattle.std.proofs.lemmas.Bool.{cases_lt, cases_order}
 use Rattle.std.proofs.lemmas.List.FromFn.{length-map-range_with_len, get_or-map-range_with_len}
-use Rattle.course.specs.Blanks.{Meaning, Leads, Walk, stay, cut, Lawful}
+use Rattle.course.specs.Blanks.{Leads, Walk, stay, cut, Lawful}
 use Rattle.table.specs.Table.{Rows, states, Holds, Passes}
 use Rattle.table.proofs.Firsts.{entry_within}
 use Rattle.tableblank.specs.Tabled.{first, entries, entry, row, tabled}

@@ -1,10 +1,8 @@
 // A table as a blank: made from rows that pass the checks, or refused with what is wrong. It stands on course, blank and table.
 #![tactic(auto)]
 
-mod making;
 mod table_blank;
 #[cfg(test)]
 mod tests;
 
-pub use making::Making;
 pub use table_blank::Table;

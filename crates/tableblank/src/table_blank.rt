@@ -1,11 +1,12 @@
-ghost use Rattle.std.specs.Prelude.{◌≡◌, ◌+◌, ◌<◌, ◌≤◌, length, Some};
+ghost use Rattle.std.specs.Prelude.{◌≡◌, ◌+◌, slice_range};
 ghost use Rattle.table.specs.Table.{Passes};
 ghost use Rattle.table.specs.Checks.{rows_in};
-ghost use Rattle.tableblank.specs.Tabled.{first, entries, entry, tabled};
+ghost use Rattle.tableblank.specs.Made.{Made};
+ghost use Rattle.tableblank.specs.Tabled.{first, tabled};
 ghost use Rattle.tableblank.specs.Laws.{passes_lawful};
 
 use blank::Blank;
-use table::TableRows;
+use table::{Flaw, TableRows};
 
 // A table whose rows pass the checks.
 #[derive(Clone, Copy)]
@@ -15,30 +16,26 @@ pub struct Table<'a> {
 }
 
 impl<'a> Table<'a> {
-    pub(crate) fn over(rows: TableRows<'a>) -> Table<'a>
-        requires { Passes (rows_in rows) }
-        ensures { rows_in result.rows ≡ rows_in rows.entry }
+    // The table of some rows, or what is wrong with them.
+    pub fn over(rows: TableRows<'a>) -> Result<Table<'a>, Flaw>
+        ensures { Made (rows_in rows.entry) (λ t. rows_in t.rows) result }
     {
-        Table { rows }
+        rows.check()?;
+        Ok(Table { rows })
     }
 
-    // How many entries a state has.
-    fn span(&self, state: usize) -> u32
-        requires { (state + 1 < length (rows_in self.now.rows).firsts) × (first (rows_in self.now.rows) state ≤ first (rows_in self.now.rows) (state + 1)) }
-        ensures { result ≡ entries (rows_in self.now.rows) state }
+    // The targets and the costs of a state's entries, in their order. A number that is no state has none.
+    fn row(&self, state: u32) -> (&'a [u32], &'a [u32])
+        ensures targets { result.0.now ≡ slice_range (rows_in self.now.rows).targets (first (rows_in self.now.rows) state) (first (rows_in self.now.rows) (state + 1)) }
+        ensures costs { result.1.now ≡ slice_range (rows_in self.now.rows).costs (first (rows_in self.now.rows) state) (first (rows_in self.now.rows) (state + 1)) }
     {
-        self.rows.firsts[state + 1] - self.rows.firsts[state]
-    }
-
-    // The target and the cost at an entry of a state, counted from its first.
-    fn nth(&self, state: usize, place: usize) -> (u32, u32)
-        requires state { state < length (rows_in self.now.rows).firsts }
-        requires target { first (rows_in self.now.rows) state + place < length (rows_in self.now.rows).targets }
-        requires cost { length (rows_in self.now.rows).targets ≡ length (rows_in self.now.rows).costs }
-        ensures { Some result ≡ entry (rows_in self.now.rows) (first (rows_in self.now.rows) state + place) }
-    {
-        let at = self.rows.firsts[state] as usize + place;
-        (self.rows.targets[at], self.rows.costs[at])
+        let u = state as usize;
+        if u >= self.rows.estimates.len() {
+            return (&[], &[]);
+        }
+        let from = self.rows.firsts[u] as usize;
+        let to = self.rows.firsts[u + 1] as usize;
+        (&self.rows.targets[from..to], &self.rows.costs[from..to])
     }
 }
 
@@ -60,23 +57,20 @@ impl<'a> Blank for Table<'a> {
     }
 
     fn places(&self, state: u32) -> u32 {
-        if state as usize >= self.rows.estimates.len() {
-            return 0;
-        }
-        self.span(state as usize)
+        self.row(state).0.len() as u32
     }
 
     fn cut(&self, state: u32, place: u32) -> Option<(u32, u32)> {
-        if place >= self.places(state) {
-            return None;
-        }
-        Some(self.nth(state as usize, place as usize))
+        let (targets, costs) = self.row(state);
+        let at = place as usize;
+        Some((*targets.get(at)?, *costs.get(at)?))
     }
 
     fn estimate(&self, state: u32) -> u32 {
-        if state as usize >= self.rows.estimates.len() {
-            return 0;
-        }
-        self.rows.estimates[state as usize]
+        self.rows
+            .estimates
+            .get(state as usize)
+            .copied()
+            .unwrap_or(0)
     }
 }

@@ -5,7 +5,7 @@ ghost use Rattle.table.specs.Table.{Worst};
 ghost use Rattle.table.specs.Checks.{rows_in};
 ghost use Rattle.tableblank.specs.Tabled.{tabled};
 
-use crate::making::Making;
+use crate::table_blank::Table;
 use blank::Blank;
 use course::Refusal;
 use std::test::Fail;
@@ -20,19 +20,16 @@ fn floor<B: Blank>(blank: &B) -> u32
 
 // What a way by this cut costs at least: by the laws the sum fits.
 fn by_cut<B: Blank>(blank: &B, state: u32, place: u32) -> Option<u32> {
-    match blank.cut(state, place) {
-        Some((to, cost)) => Some(cost + blank.estimate(to)),
-        None => None,
-    }
+    let (to, cost) = blank.cut(state, place)?;
+    Some(cost + blank.estimate(to))
 }
 
 // What no route of these rows goes under, or their worst flaw.
 fn floor_of(rows: TableRows<'_>) -> Result<u32, Flaw>
     ensures { elim result [ Ok least ↦ ((path : List ℕ) (cost : ℕ) → Route (tabled (rows_in rows.entry)) path cost → least ≤ cost) | Err f ↦ Worst (rows_in rows.entry) (number_of f.cause) f.place ] }
 {
-    let making = Making::over(rows);
-    let table = making.get()?;
-    Ok(floor(table))
+    let table = Table::over(rows)?;
+    Ok(floor(&table))
 }
 
 // Four states: 0 leads to 1 and 2, and both lead to the goal 3.
@@ -49,8 +46,7 @@ fn worked() -> TableRows<'static> {
 
 #[test]
 fn the_worked_table_answers(rt: HostRuntime) -> Result<(), Fail> {
-    let making = Making::over(worked());
-    let table = making.get()?;
+    let table = Table::over(worked())?;
     assert_eq!(rt; table.states(), 4);
     assert_eq!(rt; table.start(), 0);
     assert_eq!(rt; table.goal(), 3);
@@ -68,8 +64,7 @@ fn the_worked_table_answers(rt: HostRuntime) -> Result<(), Fail> {
 
 #[test]
 fn what_is_not_there_is_answered_too(rt: HostRuntime) -> Result<(), Fail> {
-    let making = Making::over(worked());
-    let table = making.get()?;
+    let table = Table::over(worked())?;
     assert_eq!(rt; table.cut(0, 2), None);
     assert_eq!(rt; table.cut(0, u32::MAX), None);
     assert_eq!(rt; table.cut(3, 0), None);
@@ -83,32 +78,25 @@ fn what_is_not_there_is_answered_too(rt: HostRuntime) -> Result<(), Fail> {
 }
 
 #[test]
-fn a_refusal_tells_its_place(rt: HostRuntime) -> Result<(), Fail> {
-    let making = Making::over(TableRows {
+fn a_refusal_tells_its_place(rt: HostRuntime) {
+    let refused = Table::over(TableRows {
         costs: &[30, 50, 0, 20],
         ..worked()
     });
-    match making.get() {
-        Ok(_) => Err(Fail::new("lent")),
-        Err(flaw) => {
-            assert_eq!(rt;
-                flaw,
-                Flaw {
-                    cause: Refusal::BadCost,
-                    place: 2,
-                }
-            );
-            Ok(())
-        },
-    }
+    assert_eq!(rt;
+        refused.err(),
+        Some(Flaw {
+            cause: Refusal::BadCost,
+            place: 2,
+        })
+    );
 }
 
 #[test]
 fn any_blank_serves_a_generic_caller(rt: HostRuntime) -> Result<(), Fail> {
     assert_eq!(rt; floor_of(worked())?, 40);
-    let making = Making::over(worked());
-    let table = making.get()?;
-    assert_eq!(rt; by_cut(table, 0, 1), Some(70));
+    let table = Table::over(worked())?;
+    assert_eq!(rt; by_cut(&table, 0, 1), Some(70));
     assert_eq!(rt; by_cut(&table, 3, 0), None);
     Ok(())
 }

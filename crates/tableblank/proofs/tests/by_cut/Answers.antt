@@ -6,6 +6,6 @@ pub overflow_add-result : goal.overflow_add-result
 overflow_add-result g c =
     let x = c.args.blank.now in
     let law = g.B.Blank.lawful x in
-    let a : Leads (g.B.Blank.meaning x) c.args.state c.in-Some.to c.in-Some.cost =
-    record { place = c.args.place; holds = sym c.in-Some.ensures } in
-    omega (arith, law.cost_most a, law.estimate_most c.in-Some.to, c.estimate.ensures)
+    let a : Leads (g.B.Blank.meaning x) c.args.state c.in_ok-to.to c.in_ok-to.cost =
+    record { place = c.args.place; holds = sym c.in_ok-to.ensures } in
+    omega (arith, law.cost_most a, law.estimate_most c.in_ok-to.to, c.estimate.ensures)

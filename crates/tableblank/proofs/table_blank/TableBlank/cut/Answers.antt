@@ -1,32 +1,25 @@
-use Rattle.std.proofs.Common.{◌<◌, sym, arith}
+use Rattle.std.proofs.Common.{◌∙◌, inl, inr, arith}
 use Rattle.table.specs.Checks.{rows_in}
-use Rattle.tableblank.specs.Tabled.{entries}
-use Rattle.tableblank.specs.Passed.{passes_shape}
-use Rattle.tableblank.specs.Laws.{row_length, row_at, row_past, holds_at, entry_in}
+use Rattle.tableblank.proofs.Parts.{none_there, cut_there}
 use Rattle.tableblank.proofs.table_blank.TableBlank.cut.Goals as goal
-use Rattle.tableblank.proofs.table_blank.TableBlank.cut.Goals.{Else-place-places}
 
-pub returns-then-place-places : goal.returns-then-place-places
-returns-then-place-places c =
-    let r = rows_in c.args.self.now.rows in
-    sym (row_past r c.args.state c.args.place (omega (arith, row_length r c.args.state)))
-
--- The place is one of the state's.
-within : (c : Else-place-places) → c.args.place < entries (rows_in c.args.self.now.rows) c.args.state
-within c = omega (arith, row_length (rows_in c.args.self.now.rows) c.args.state)
-
-pub nth-requires : goal.nth-requires
-nth-requires c =
+pub returns-in_err-get : goal.returns-in_err-get
+returns-in_err-get c =
     let x = c.args.self.now in
-    let r = rows_in x.rows in
-    let s = passes_shape r x.sound in
-    record {
-      state = omega (arith, (holds_at r x.sound c.args.state c.args.place (within c)).state, s.one_more);
-      target = entry_in r x.sound c.args.state c.args.place (within c);
-      cost = s.alike;
-    }
+    let e = c.row.ensures in
+    c.from_residual.ensures ∙ none_there (rows_in x.rows) x.sound c.args.state _ _ e.targets e.costs c.args.place (inl (omega (arith, c.in_err-get.ensures.lookup)))
+
+pub returns-in_err-get-2 : goal.returns-in_err-get-2
+returns-in_err-get-2 c =
+    let x = c.args.self.now in
+    let e = c.row.ensures in
+    c.from_residual-in_err-get-2.ensures
+    ∙ none_there (rows_in x.rows) x.sound c.args.state _ _ e.targets e.costs c.args.place (inr (omega (arith, c.in_err-get-2.ensures.lookup)))
 
 pub returns : goal.returns
 returns c =
-    let here = row_at (rows_in c.args.self.now.rows) c.args.state c.args.place (within (goal.at.returns c).Else-place-places) in
-    cc
+    let x = c.args.self.now in
+    let e = c.row.ensures in
+    cut_there (rows_in x.rows) x.sound c.args.state _ _ e.targets e.costs c.args.place _ _ (omega (arith, c.in_ok-get.ensures.lookup))
+    (c.in_ok-get.ensures.lookup.3.1 0)
+    (c.in_ok-get-2.ensures.lookup.3.1 0)

@@ -1,19 +1,19 @@
 use Rattle.std.proofs.Common.{sym, ◌∙◌, arith}
 use Rattle.table.specs.Checks.{rows_in}
-use Rattle.tableblank.specs.Passed.{passes_shape}
-use Rattle.tableblank.specs.Laws.{row_length, none_outside}
+use Rattle.tableblank.specs.Laws.{row_length, passes_lawful}
+use Rattle.tableblank.proofs.Parts.{targets_long}
 use Rattle.tableblank.proofs.table_blank.TableBlank.places.Goals as goal
 
-pub returns-then-state-self : goal.returns-then-state-self
-returns-then-state-self c =
+pub overflow_cast-result : goal.overflow_cast-result
+overflow_cast-result c =
     let x = c.args.self.now in
-    sym (row_length (rows_in x.rows) c.args.state ∙ none_outside (rows_in x.rows) x.sound c.args.state c.if-state-self.true)
-
-pub span-requires : goal.span-requires
-span-requires c =
-    let x = c.args.self.now in
-    let s = passes_shape (rows_in x.rows) x.sound in
-    (omega (arith, s.one_more), s.rising c.args.state (omega arith))
+    let r = rows_in x.rows in
+    let u = c.args.state in
+    omega (arith, targets_long r x.sound u _ _ c.row.ensures.targets c.row.ensures.costs, (passes_lawful r x.sound).places_most u, row_length r u)
 
 pub returns : goal.returns
-returns c = c.span.ensures ∙ sym (row_length (rows_in c.args.self.now.rows) c.args.state)
+returns c =
+    let x = c.args.self.now in
+    let r = rows_in x.rows in
+    let u = c.args.state in
+    targets_long r x.sound u _ _ c.row.ensures.targets c.row.ensures.costs ∙ sym (row_length r u)

@@ -6,6 +6,7 @@ impl<B: Blank> Blank for &B {
 
     ghost lawful = { λ x. B.Blank.lawful x.now };
 
+    // A line a question: the language has no shorter form in which one value answers for another.
     fn states(&self) -> u32 {
         (**self).states()
     }

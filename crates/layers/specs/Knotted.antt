@@ -1,11 +1,11 @@
 -- A blank with knots: no cut leads into a marked state, and all else is as below.
-use Rattle.std.specs.Prelude.{ℕ, zero, suc, Bool, false, cond, ◌||◌, List, map, Some, None, Option, ◌==◌, slice_index}
+use Rattle.std.specs.Prelude.{ℕ, Bool, cond, List, map, Some, None, Option, ◌==◌}
+use Rattle.std.specs.List.{list_any}
 use Rattle.course.specs.Blanks.{Meaning}
 
--- Whether s is one of the first n numbers of a list.
-abbrev pub among : List ℕ → ℕ → ℕ → Bool
-among xs zero s = false
-among xs (suc n) s = slice_index xs n == s || among xs n s
+-- Whether s is one of the numbers of a list.
+abbrev pub among : List ℕ → ℕ → Bool
+among xs s = list_any (λ k. k == s) xs
 
 -- What a place holds once some states are marked: a cut into a marked state is gone.
 abbrev pub barring : (ℕ → Bool) → Option (ℕ × ℕ) → Option (ℕ × ℕ)

@@ -1,24 +1,21 @@
 -- Which states may be marked.
-use Rattle.std.specs.Prelude.{ℕ, Bool, cond, ◌||◌, List, ◌==◌, nat_le}
+use Rattle.std.specs.Prelude.{ℕ, Bool, cond, ◌||◌, List, length, Ok, Err, Result, ◌==◌, nat_le}
 use Rattle.course.specs.Blanks.{Meaning}
 use Rattle.course.specs.Refusals.{number_of}
+use Rattle.course.specs.declared.refusal.Refusal.{Refusal}
 use Rattle.course.specs.declared.refusal.Refusal.TheVariants.{KnotBarred, KnotMarked, KnotsFull}
 use Rattle.layers.specs.Knotted.{among}
-use Rattle.layers.specs.declared.may_mark.MayMark.{MayMark}
-use Rattle.layers.specs.declared.may_mark.MayMark.TheVariants.{Yes, Barred, Marked, Full}
 
 -- The number by which an answer is told: 0 for yes, and else that of the refusal.
-abbrev pub mark_number : MayMark → ℕ
-mark_number Yes = 0
-mark_number Barred = number_of KnotBarred
-mark_number Marked = number_of KnotMarked
-mark_number Full = number_of KnotsFull
+abbrev pub mark_number : Result (Unit {0}) Refusal → ℕ
+mark_number (Ok _) = 0
+mark_number (Err refusal) = number_of refusal
 
 -- What may never be marked: what is no state, the start and the goal.
 abbrev pub barred : Meaning → ℕ → Bool
 barred m s = nat_le m.states s || (s == m.start || s == m.goal)
 
--- Whether s may be marked over m, where the knots are the first `count` of a list. Of the refusals that apply, the one with the smallest
--- number is told.
-abbrev pub may_be_marked : Meaning → List ℕ → ℕ → ℕ → MayMark
-may_be_marked m knots count s = cond (barred m s) Barred (cond (among knots count s) Marked (cond (nat_le 64 count) Full Yes))
+-- Whether s may be marked over m, where these are the knots. Of the refusals that apply, the one with the smallest number is told.
+abbrev pub may_be_marked : Meaning → List ℕ → ℕ → Result (Unit {0}) Refusal
+may_be_marked m knots s =
+    cond (barred m s) (Err KnotBarred) (cond (among knots s) (Err KnotMarked) (cond (nat_le 64 (length knots)) (Err KnotsFull) (Ok tt)))

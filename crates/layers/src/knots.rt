@@ -1,90 +1,79 @@
 // Knots: a layer that marks states, so that no cut leads into them.
-ghost use Rattle.std.specs.Prelude.{◌≡◌, ℕ, ◌+◌, ◌≤◌, ◌||◌, ◌==◌, ◌≢◌};
-ghost use Rattle.layers.specs.declared.may_mark.MayMark.TheVariants.{Yes};
+ghost use Rattle.std.specs.Prelude.{◌≡◌, ℕ, ◌+◌, ◌||◌, ◌==◌, ◌≢◌, [], Ok};
+ghost use Rattle.arrayvec.specs.ArrayVec.{array_vec_len};
 ghost use Rattle.layers.specs.Knotted.{knotted, among};
 ghost use Rattle.layers.specs.KnottedLaws.{knotted_lawful};
 ghost use Rattle.layers.specs.Marking.{may_be_marked};
 
-use crate::may_mark::MayMark;
+use arrayvec::ArrayVec;
 use blank::Blank;
+use course::Refusal;
 
 // How many knots may stand.
-const MOST_KNOTS: u32 = 64;
+const MOST_KNOTS: usize = 64;
 
-// A knot is a marked state: the cuts into it are empty, and all else is as below. The knots are the first `count` of `knots`.
+// A knot is a marked state: the cuts into it are empty, and all else is as below.
 #[derive(Drop)]
 pub struct Knots<B> {
     below: B,
-    knots: [u32; 64],
-    count: u32,
-    ghost room: { count ≤ 64 },
+    knots: ArrayVec<u32, MOST_KNOTS>,
 }
 
 impl<B: Blank> Knots<B> {
     // The layer with no knot.
     pub fn over(below: B) -> Knots<B>
-        ensures { (result.below ≡ below) × (result.count ≡ 0) }
+        ensures { (result.below ≡ below) × (result.knots.items ≡ []) }
     {
         Knots {
             below,
-            knots: [0; 64],
-            count: 0,
+            knots: ArrayVec::new(),
         }
     }
 
     pub fn is_marked(&self, state: u32) -> bool
-        ensures { result ≡ among self.now.knots self.now.count state }
+        ensures { result ≡ among self.now.knots.items state }
     {
-        for i in 0..self.count {
-            if self.knots[i as usize] == state {
-                return true;
-            }
-        }
-        false
+        self.knots.contains(&state)
     }
 
     // Whether a state may be marked now; else the refusal with the smallest number that applies.
-    pub fn may_mark(&self, state: u32) -> MayMark
-        ensures { result ≡ may_be_marked (B.meaning self.now.below) self.now.knots self.now.count state }
+    pub fn may_mark(&self, state: u32) -> Result<(), Refusal>
+        ensures { result ≡ may_be_marked (B.meaning self.now.below) self.now.knots.items state }
     {
-        if state >= self.below.states() {
-            return MayMark::Barred;
-        }
-        if state == self.below.start() {
-            return MayMark::Barred;
-        }
-        if state == self.below.goal() {
-            return MayMark::Barred;
+        if state >= self.below.states()
+            || state == self.below.start()
+            || state == self.below.goal()
+        {
+            return Err(Refusal::KnotBarred);
         }
         if self.is_marked(state) {
-            return MayMark::Marked;
+            return Err(Refusal::KnotMarked);
         }
-        if self.count >= MOST_KNOTS {
-            return MayMark::Full;
+        if self.knots.is_full() {
+            return Err(Refusal::KnotsFull);
         }
-        MayMark::Yes
+        Ok(())
     }
 
     // Marks a state where it may be marked, and that state only; elsewhere gives the layer back as it was.
     pub fn mark(mut self, state: u32) -> Knots<B>
         ensures below { result.below ≡ self.below }
-        ensures marked { may_be_marked (B.meaning self.below) self.knots self.count state ≡ Yes → (result.count ≡ self.count + 1) × ((s : ℕ) → among result.knots result.count s ≡ (state == s || among self.knots self.count s)) }
-        ensures refused { (may_be_marked (B.meaning self.below) self.knots self.count state ≢ Yes) → result ≡ self }
+        ensures marked { may_be_marked (B.meaning self.below) self.knots.items state ≡ Ok tt → (array_vec_len result.knots ≡ array_vec_len self.knots + 1) × ((s : ℕ) → among result.knots.items s ≡ (state == s || among self.knots.items s)) }
+        ensures refused { (may_be_marked (B.meaning self.below) self.knots.items state ≢ Ok tt) → result ≡ self }
     {
-        let MayMark::Yes = self.may_mark(state) else {
-            return self;
-        };
-        self.knots[self.count as usize] = state;
-        self.count += 1;
+        if self.may_mark(state).is_ok() {
+            self.knots.push(state);
+        }
         self
     }
 }
 
 impl<B: Blank> Blank for Knots<B> {
-    ghost meaning = { λ x. knotted (B.Blank.meaning x.below) (among x.knots x.count) };
+    ghost meaning = { λ x. knotted (B.Blank.meaning x.below) (among x.knots.items) };
 
-    ghost lawful = { λ x. knotted_lawful (B.Blank.meaning x.below) (among x.knots x.count) (B.Blank.lawful x.below) };
+    ghost lawful = { λ x. knotted_lawful (B.Blank.meaning x.below) (among x.knots.items) (B.Blank.lawful x.below) };
 
+    // To the blank below, a line a question: one impl over a trait of layers would ask a method, a ghost member and a law of each layer.
     fn states(&self) -> u32 {
         self.below.states()
     }
@@ -102,16 +91,9 @@ impl<B: Blank> Blank for Knots<B> {
     }
 
     fn cut(&self, state: u32, place: u32) -> Option<(u32, u32)> {
-        match self.below.cut(state, place) {
-            Some((to, cost)) => {
-                if self.is_marked(to) {
-                    None
-                } else {
-                    Some((to, cost))
-                }
-            }
-            None => None,
-        }
+        self.below
+            .cut(state, place)
+            .filter(|(to, _)| !self.is_marked(*to))
     }
 
     fn estimate(&self, state: u32) -> u32 {

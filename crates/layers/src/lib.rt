@@ -9,5 +9,5 @@ mod rounding;
 mod tests;
 
 pub use knots::Knots;
-pub use may_mark::MayMark;
+pub use may_mark::mark_number;
 pub use rounding::{Rounding, Unrounded};

@@ -1,5 +1,5 @@
 // Rounding: a layer that lowers every estimate to a multiple of a step.
-ghost use Rattle.std.specs.Prelude.{◌≡◌, ◌≤◌, Ok, Err};
+ghost use Rattle.std.specs.Prelude.{◌≡◌, ◌≤◌, IfOk, IfErr};
 ghost use Rattle.course.specs.declared.refusal.Refusal.TheVariants.{BadStep};
 ghost use Rattle.layers.specs.Rounded.{rounded};
 ghost use Rattle.layers.specs.RoundedLaws.{rounded_lawful};
@@ -30,9 +30,10 @@ pub struct Unrounded<B> {
 impl<B: Blank> Rounding<B> {
     // The layer with this step, which is 1 to 1,000; with any other the blank comes back.
     pub fn over(below: B, step: u32) -> Result<Rounding<B>, Unrounded<B>>
-        ensures { elim result [ Ok v ↦ (1 ≤ step) × (step ≤ 1000) × (v.below ≡ below) × (v.step ≡ step) | Err e ↦ (1 ≤ step → step ≤ 1000 → ⊥) × (e.below ≡ below) × (e.refusal ≡ BadStep) ] }
+        ensures made { IfOk result (λ v. (1 ≤ step) × (step ≤ 1000) × (v.below ≡ below) × (v.step ≡ step)) }
+        ensures refused { IfErr result (λ e. (1 ≤ step → step ≤ 1000 → ⊥) × (e.below ≡ below) × (e.refusal ≡ BadStep)) }
     {
-        if step < LEAST_STEP || step > MOST_STEP {
+        if !(LEAST_STEP..=MOST_STEP).contains(&step) {
             return Err(Unrounded {
                 below,
                 refusal: Refusal::BadStep,
@@ -47,6 +48,7 @@ impl<B: Blank> Blank for Rounding<B> {
 
     ghost lawful = { λ x. rounded_lawful (B.Blank.meaning x.below) x.step (B.Blank.lawful x.below) };
 
+    // To the blank below, a line a question: one impl over a trait of layers would ask a method, a ghost member and a law of each layer.
     fn states(&self) -> u32 {
         self.below.states()
     }

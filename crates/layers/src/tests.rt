@@ -2,9 +2,10 @@
 ghost use Rattle.layers.specs.Corridor.{corridor, corridor_lawful};
 
 use crate::knots::Knots;
-use crate::may_mark::MayMark;
+use crate::may_mark::mark_number;
 use crate::rounding::Rounding;
 use blank::Blank;
+use course::Refusal;
 use std::test::Fail;
 
 const LAST: u32 = 80;
@@ -48,10 +49,7 @@ impl Blank for Corridor {
 
 // A rounding, or else a failed test.
 fn rounding<B: Blank + Drop>(below: B, step: u32) -> Result<Rounding<B>, Fail> {
-    match Rounding::over(below, step) {
-        Ok(layer) => Ok(layer),
-        Err(_) => Err(Fail::new("the step is refused")),
-    }
+    Rounding::over(below, step).map_err(|_| Fail::new("the step is refused"))
 }
 
 #[test]
@@ -88,29 +86,29 @@ fn steps_are_refused(rt: HostRuntime) -> Result<(), Fail> {
 fn knots_up_to_64(rt: HostRuntime) {
     let mut layer = Knots::over(Corridor {});
     for state in 1..65 {
-        assert_eq!(rt; layer.may_mark(state), MayMark::Yes);
+        assert_eq!(rt; layer.may_mark(state), Ok(()));
         layer = layer.mark(state);
     }
     assert!(rt; layer.is_marked(64));
-    assert_eq!(rt; layer.may_mark(65), MayMark::Full);
+    assert_eq!(rt; layer.may_mark(65), Err(Refusal::KnotsFull));
     layer = layer.mark(65);
     assert!(rt; !layer.is_marked(65));
     assert_eq!(rt; layer.cut(63, 0), None);
     assert_eq!(rt; layer.cut(64, 0), Some((65, 1)));
-    assert_eq!(rt; layer.may_mark(64), MayMark::Marked);
-    assert_eq!(rt; layer.may_mark(80), MayMark::Barred);
+    assert_eq!(rt; layer.may_mark(64), Err(Refusal::KnotMarked));
+    assert_eq!(rt; layer.may_mark(80), Err(Refusal::KnotBarred));
 }
 
 #[test]
 fn marking_is_refused(rt: HostRuntime) {
     let layer = Knots::over(Corridor {}).mark(0).mark(80).mark(81).mark(7);
     assert!(rt; !layer.is_marked(0));
-    assert_eq!(rt; layer.may_mark(0).number(), 11);
-    assert_eq!(rt; layer.may_mark(80).number(), 11);
-    assert_eq!(rt; layer.may_mark(81).number(), 11);
-    assert_eq!(rt; layer.may_mark(7).number(), 37);
-    assert_eq!(rt; layer.may_mark(8).number(), 0);
-    assert_eq!(rt; MayMark::Full.number(), 38);
+    assert_eq!(rt; mark_number(layer.may_mark(0)), 11);
+    assert_eq!(rt; mark_number(layer.may_mark(80)), 11);
+    assert_eq!(rt; mark_number(layer.may_mark(81)), 11);
+    assert_eq!(rt; mark_number(layer.may_mark(7)), 37);
+    assert_eq!(rt; mark_number(layer.may_mark(8)), 0);
+    assert_eq!(rt; mark_number(Err(Refusal::KnotsFull)), 38);
 }
 
 // Rounding over knots over rounding over knots over a lent rounding.

@@ -1,5 +1,5 @@
 -- A blank with knots: no cut leads into a marked state, and all else is as below.
-use Rattle.std.specs.Prelude.{ℕ, Bool, cond, List, map, Some, None, Option, ◌==◌}
+use Rattle.std.specs.Prelude.{ℕ, Bool, if◌then◌else◌, List, map, Some, None, Option, ◌==◌}
 use Rattle.std.specs.List.{list_any}
 use Rattle.course.specs.Blanks.{Meaning}
 
@@ -10,7 +10,7 @@ among xs s = list_any (λ k. k == s) xs
 -- What a place holds once some states are marked: a cut into a marked state is gone.
 abbrev pub barring : (ℕ → Bool) → Option (ℕ × ℕ) → Option (ℕ × ℕ)
 barring marked None = None
-barring marked (Some cut) = cond (marked cut.0) None (Some cut)
+barring marked (Some cut) = if marked cut.0 then None else Some cut
 
 abbrev pub knotted : Meaning → (ℕ → Bool) → Meaning
 knotted m marked = record {

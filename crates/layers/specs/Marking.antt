@@ -1,5 +1,5 @@
 -- Which states may be marked.
-use Rattle.std.specs.Prelude.{ℕ, Bool, cond, ◌||◌, List, length, Ok, Err, Result, ◌==◌, nat_le}
+use Rattle.std.specs.Prelude.{ℕ, Bool, if◌then◌else◌, ◌||◌, List, length, Ok, Err, Result, ◌==◌, nat_le}
 use Rattle.course.specs.Blanks.{Meaning}
 use Rattle.course.specs.Refusals.{number_of}
 use Rattle.course.specs.declared.refusal.Refusal.{Refusal}
@@ -18,4 +18,4 @@ barred m s = nat_le m.states s || (s == m.start || s == m.goal)
 -- Whether s may be marked over m, where these are the knots. Of the refusals that apply, the one with the smallest number is told.
 abbrev pub may_be_marked : Meaning → List ℕ → ℕ → Result (Unit {0}) Refusal
 may_be_marked m knots s =
-    cond (barred m s) (Err KnotBarred) (cond (among knots s) (Err KnotMarked) (cond (nat_le 64 (length knots)) (Err KnotsFull) (Ok tt)))
+    if barred m s then Err KnotBarred else if among knots s then Err KnotMarked else if nat_le 64 (length knots) then Err KnotsFull else Ok tt

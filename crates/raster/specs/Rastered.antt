@@ -1,9 +1,10 @@
 -- What a raster means: cells in lines of one width, each with a byte. Byte 0 is kept wood, which is never entered; any other byte is the
 -- cost of entering its cell.
-use Rattle.std.specs.Prelude.{ℕ, ◌+◌, ◌-◌, ◌*◌, ◌/◌, ◌%◌, min, cond, List, [], ◌∷◌, Some, None, Option, ◌==◌, nat_lt, slice_index}
+use Rattle.std.specs.Prelude.{◌≡◌, ℕ, ◌+◌, ◌-◌, ◌*◌, ◌/◌, ◌%◌, ◌≤◌, min, if◌then◌else◌, List, [], ◌∷◌, Some, None, Option, Result, MatchResult, ◌==◌, nat_lt, slice_index}
 use Rattle.course.specs.Blanks.{Meaning}
 use Rattle.raster.specs.declared.direction.Direction.{Direction}
 use Rattle.raster.specs.declared.direction.Direction.TheVariants.{Up, Right, Down, Left}
+use Rattle.raster.specs.declared.direction.NoDirection.{NoDirection}
 
 -- The cell at a line and a column. Back again, a cell's line is cell / width, and its column is cell % width.
 abbrev pub cell_at : ℕ → ℕ → ℕ → ℕ
@@ -11,10 +12,10 @@ cell_at width line column = line * width + column
 
 -- The cell beside a line and a column: none past an edge.
 abbrev pub beside : ℕ → ℕ → Direction → ℕ → ℕ → Option ℕ
-beside width height Up line column = cond (nat_lt 0 line) (Some (cell_at width (line - 1) column)) None
-beside width height Right line column = cond (nat_lt (column + 1) width) (Some (cell_at width line (column + 1))) None
-beside width height Down line column = cond (nat_lt (line + 1) height) (Some (cell_at width (line + 1) column)) None
-beside width height Left line column = cond (nat_lt 0 column) (Some (cell_at width line (column - 1))) None
+beside width height Up line column = if nat_lt 0 line then Some (cell_at width (line - 1) column) else None
+beside width height Right line column = if nat_lt (column + 1) width then Some (cell_at width line (column + 1)) else None
+beside width height Down line column = if nat_lt (line + 1) height then Some (cell_at width (line + 1) column) else None
+beside width height Left line column = if nat_lt 0 column then Some (cell_at width line (column - 1)) else None
 
 -- The cell next to a cell in a direction.
 abbrev pub neighbour : ℕ → ℕ → Direction → ℕ → Option ℕ
@@ -22,7 +23,7 @@ neighbour width height direction cell = beside width height direction (cell / wi
 
 -- The cut into a cell, at the cost of entering it: none into kept wood.
 abbrev pub entering : List ℕ → ℕ → Option (ℕ × ℕ)
-entering bytes cell = cond (slice_index bytes cell == 0) None (Some (cell, slice_index bytes cell))
+entering bytes cell = if slice_index bytes cell == 0 then None else Some (cell, slice_index bytes cell)
 
 -- The cut into a neighbour, where there is one.
 abbrev pub cut_into : List ℕ → Option ℕ → Option (ℕ × ℕ)
@@ -40,6 +41,10 @@ number Right = 1
 number Down = 2
 number Left = 3
 
+-- What a place gives: the direction with that number, or none, past the fourth.
+abbrev pub Directs : ℕ → Result Direction NoDirection → Type 0
+Directs place r = MatchResult r (λ d. place ≡ number d) (λ _. 4 ≤ place)
+
 -- What one axis adds to the way between two cells: the difference of their lines, or of their columns.
 abbrev pub axis_distance : ℕ → ℕ → ℕ
 axis_distance a b = (a - b) + (b - a)
@@ -50,7 +55,7 @@ distance width a b = axis_distance (a / width) (b / width) + axis_distance (a % 
 
 -- The smaller of a cost and a byte, where byte 0 counts for nothing.
 abbrev pub lesser : ℕ → ℕ → ℕ
-lesser cost byte = cond (byte == 0) cost (min cost byte)
+lesser cost byte = if byte == 0 then cost else min cost byte
 
 -- The smallest byte above 0, and 255, the largest, where there is none.
 abbrev pub least_cost : List ℕ → ℕ
@@ -64,6 +69,6 @@ rastered bytes width height start goal =
       states = width * height;
       start = start;
       goal = goal;
-      places = λ u. cond (nat_lt u (width * height)) (four (λ d. cut_into bytes (neighbour width height d u))) [];
-      estimate = λ u. cond (nat_lt u (width * height)) (distance width u goal * least_cost bytes) 0;
+      places = λ u. if nat_lt u (width * height) then four (λ d. cut_into bytes (neighbour width height d u)) else [];
+      estimate = λ u. if nat_lt u (width * height) then distance width u goal * least_cost bytes else 0;
     }

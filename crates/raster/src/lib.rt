@@ -2,9 +2,12 @@
 // it; byte 0 is kept wood, which is never entered. It stands on course and blank.
 #![tactic(auto)]
 
+mod cells;
 mod direction;
-mod laying;
 mod raster;
+mod sides;
+#[cfg(test)]
+mod tests;
 
-pub use laying::Laying;
+pub use cells::Cells;
 pub use raster::Raster;

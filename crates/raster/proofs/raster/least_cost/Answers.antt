@@ -1,34 +1,35 @@
-use Rattle.std.proofs.Common.{◌≡◌, ℕ, ◌+◌, min, true, false, cond, eqb, get_or, drop, sym, ap, ◌∙◌, arith}
-use native.Mathlib.Nat.{min-eq_right}
-use Rattle.std.proofs.lemmas.List.{at_drop_more, at_drop_all}
-use Rattle.raster.specs.Rastered.{lesser, least_cost}
-use Rattle.raster.specs.Laws.{least_most}
+use Rattle.std.proofs.Common.{◌≡◌, ℕ, suc, refl, slice_index, ◌≤◌, List, [], ◌∷◌, rules, tests, ◌∙◌, ap, sym, arith, min, true, false, cond, eqb, not}
+use Rattle.std.specs.Prelude.{unwrap_or, filter, fold}
+use Rattle.std.specs.List.{reduce}
+use Rattle.std.proofs.lemmas.Iterator.{YieldsList-from_slice}
+use Rattle.std.proofs.lemmas.Iterator.Adapters.{option_map_id}
+use Rattle.std.proofs.lemmas.Iterator.Consumers.{YieldsList-from_copied, YieldsList-from_filter, YieldsList-at, min_from_yields_List}
+use Rattle.raster.specs.Rastered.{least_cost}
 use Rattle.raster.proofs.raster.least_cost.Goals as goal
 
--- A byte may be counted before the rest or after it.
-lesser_moves : (cost rest byte : ℕ) → min (lesser cost byte) rest ≡ min cost (lesser rest byte)
-lesser_moves cost rest byte =
-    elim (eqb byte 0) as (λ b. min (cond b cost (min cost byte)) rest ≡ min cost (cond b rest (min rest byte))) [
-      | true ↦ omega arith
-      | false ↦ omega arith
+-- The bytes above 0, and the least of them and of what was found before.
+abbrev open_bytes : List ℕ → List ℕ
+open_bytes bytes = filter (λ b. not (eqb b 0)) bytes
+
+least_after : (a : ℕ) (bytes : List ℕ) → a ≤ 255 → fold min a (open_bytes bytes) ≡ min a (least_cost bytes)
+least_after a [] h = omega arith
+least_after a (b ∷ bs) h =
+    elim (eqb b 0) as (λ e. fold min a (cond (not e) (b ∷ open_bytes bs) (open_bytes bs)) ≡ min a (cond e (least_cost bs) (min (least_cost bs) b))) [
+      | true ↦ least_after a bs h
+      | false ↦ omega (arith, least_after (min a b) bs (omega arith))
     ]
 
-pub loop-byte-init : goal.loop-byte-init
-loop-byte-init c = (omega arith, min-eq_right (least_most c.args.bytes.now))
+least_open : (bytes : List ℕ) → ((i : ℕ) → slice_index bytes i ≤ 255) → unwrap_or (reduce min (open_bytes bytes)) 255 ≡ least_cost bytes
+least_open [] h = refl
+least_open (b ∷ bs) h =
+    elim (eqb b 0) as (λ e. unwrap_or (reduce min (cond (not e) (b ∷ open_bytes bs) (open_bytes bs))) 255 ≡ cond e (least_cost bs) (min (least_cost bs) b)) [
+      | true ↦ least_open bs (λ i. h (suc i))
+      | false ↦ omega (arith, least_after b bs (h 0))
+    ]
 
-pub loop-byte-preserved : goal.loop-byte-preserved
-loop-byte-preserved c =
-    let xs = c.args.bytes.now in
-    let i = c.loop-byte.byte-index in
-    let rest = least_cost (drop (i + 1) xs) in (
-      omega (arith, c.lesser-least.type_inv),
-      ap (λ n. min n rest) c.lesser-least.ensures
-          ∙ lesser_moves c.loop-byte.least rest (get_or xs i 0)
-          ∙ ap (min c.loop-byte.least) (sym (at_drop_more least_cost xs i 0 c.loop-byte-test.true))
-          ∙ c.loop-byte.invariant.1,
-    )
-
-pub returns : goal.returns
-returns c =
-    let none = at_drop_all least_cost c.args.bytes.now c.loop-byte.byte-index (omega arith) in
-    omega (arith, none, c.loop-byte.invariant.0, c.loop-byte.invariant.1)
+pub returns-clause-is : goal.returns-clause-is
+returns-clause-is c =
+    let picked : c.min.result ≡ reduce min (open_bytes c.args.bytes.now) =
+    sym (option_map_id _) ∙ min_from_yields_List _ _ c.min.ensures.ran
+    (YieldsList-from_filter _ (λ b. not (eqb b 0)) (YieldsList-at c.filter.ensures.source (YieldsList-from_copied (YieldsList-at c.copied.ensures.source (YieldsList-from_slice c.args.bytes.now c.iter.ensures.rest)))) c.filter.ensures.closure (λ x r q k. search (rules, tests))) in
+    c.unwrap_or.ensures ∙ ap (λ o. unwrap_or o 255) picked ∙ least_open c.args.bytes.now (λ i. omega (arith, c.type_inv.bytes i))

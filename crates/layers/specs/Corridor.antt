@@ -23,8 +23,8 @@ step : (b : Bool) (u place v c : ℕ) → slice_index_or (onward b u) place None
 step true u zero v c e =
     let pair : ◌≡◌ {A = ℕ × ℕ} (u + 1, 1) (v, c) = cc in
     record { there = refl; first = refl; to = sym (ap (λ (x : ℕ × ℕ). x.0) pair); one = sym (ap (λ (x : ℕ × ℕ). x.1) pair) }
-step true u (suc i) v c e = let z : ◌≡◌ {A = ℕ} 0 1 = cc in absurd (omega arith)
-step false u i v c e = let z : ◌≡◌ {A = ℕ} 0 1 = cc in absurd (omega arith)
+step true u (suc i) v c e = absurd cc
+step false u i v c e = absurd cc
 
 taken : {u v c : ℕ} (l : Leads corridor u v c) → Step (nat_lt u 80) u l.place v c
 taken {u} {v} {c} l = step (nat_lt u 80) u l.place v c l.holds

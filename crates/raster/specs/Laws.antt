@@ -12,11 +12,11 @@ use Rattle.raster.specs.Rastered.{cell_at, neighbour, cut_into, four, number, ax
 -- What a test lets through holds, and is what came out.
 passed : {X : Type 0} (b : Bool) (x y : X) → cond b (Some x) None ≡ Some y → (b ≡ true) × (x ≡ y)
 passed true x y e = (refl, cc)
-passed false x y e = absurd (let z : ◌≡◌ {A = ℕ} 0 1 = cc in omega arith)
+passed false x y e = absurd cc
 
 -- The same of a test that stops what it finds.
 unstopped : {X : Type 0} (b : Bool) (x y : X) → cond b None (Some x) ≡ Some y → (b ≡ false) × (x ≡ y)
-unstopped true x y e = absurd (let z : ◌≡◌ {A = ℕ} 0 1 = cc in omega arith)
+unstopped true x y e = absurd cc
 unstopped false x y e = (refl, cc)
 
 -- One step along an axis brings the goal nearer by one at most.
@@ -52,7 +52,7 @@ toward held zero p e = record { direction = Up; at = refl; holds = e }
 toward held (suc zero) p e = record { direction = Right; at = refl; holds = e }
 toward held (suc (suc zero)) p e = record { direction = Down; at = refl; holds = e }
 toward held (suc (suc (suc zero))) p e = record { direction = Left; at = refl; holds = e }
-toward held (suc (suc (suc (suc k)))) p e = absurd (let z : ◌≡◌ {A = ℕ} 0 1 = cc in omega arith)
+toward held (suc (suc (suc (suc k)))) p e = absurd cc
 
 -- A cell by its line and column, within the raster.
 record Lies (width height cell line column : ℕ) : Type 0 where
@@ -153,7 +153,7 @@ record Cut (bytes : List ℕ) (width height u v c place : ℕ) : Type 0 where
   entered : get_or bytes v 0 ≡ 0 → ⊥
 
 neighbour_cut : (bytes : List ℕ) (o : Option ℕ) (v c : ℕ) → cut_into bytes o ≡ Some (v, c) → (o ≡ Some v) × (slice_index bytes v ≡ c) × (slice_index bytes v ≢ 0)
-neighbour_cut bytes None v c e = absurd (let z : ◌≡◌ {A = ℕ} 0 1 = cc in omega arith)
+neighbour_cut bytes None v c e = absurd cc
 neighbour_cut bytes (Some n) v c e =
     let p = unstopped (slice_index bytes n == 0) (n, slice_index bytes n) (v, c) e in
     let to : n ≡ v = ap (λ (x : ℕ × ℕ). x.0) p.1 in
@@ -180,9 +180,8 @@ module _ (bytes : List ℕ) (width height start goal : ℕ) (wide : 1 ≤ width)
               entered = n.2;
             }
         | inr out ↦
-            absurd
-            (let none : None ≡ Some (v, c) = ap (λ x. get_or x l.place None) (sym (cond-false (nat_lt u (width * height)) _ [] out)) ∙ l.holds in
-            let z : ◌≡◌ {A = ℕ} 0 1 = cc in omega arith)
+            let none : ◌≡◌ {A = Option (ℕ × ℕ)} None (Some (v, c)) = ap (λ x. get_or x l.place None) (sym (cond-false (nat_lt u (width * height)) _ [] out)) ∙ l.holds in
+            absurd cc
       ]
 
   estimate_in : (u : ℕ) → u < width * height → blank.estimate u ≡ distance width u goal * least_cost bytes

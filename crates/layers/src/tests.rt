@@ -69,13 +69,11 @@ fn estimates_are_lowered(rt: HostRuntime) -> Result<(), Fail> {
 fn steps_are_refused(rt: HostRuntime) -> Result<(), Fail> {
     let corridor = Corridor {};
     for step in [0, 1001, 4294967295] {
-        match Rounding::over(&corridor, step) {
-            Ok(_) => return Err(Fail::new("the step is taken")),
-            Err(refused) => {
-                assert_eq!(rt; refused.refusal.number(), 12);
-                assert_eq!(rt; refused.below.states(), 81);
-            }
-        }
+        let refused = Rounding::over(&corridor, step)
+            .err()
+            .ok_or("the step is taken")?;
+        assert_eq!(rt; refused.refusal.number(), 12);
+        assert_eq!(rt; refused.below.states(), 81);
     }
     assert_eq!(rt; rounding(&corridor, 1)?.estimate(47), 33);
     assert_eq!(rt; rounding(&corridor, 1000)?.estimate(47), 0);

@@ -22,6 +22,7 @@ impl Cells<'_> {
     pub(crate) fn fits_shape(&self) -> bool
         ensures { IsTrue result ↔ (FitShape self.now.bytes.now self.now.width self.now.height) }
     {
+        // in 64 bits no area wraps
         let area = u64::from(self.width) * u64::from(self.height);
         (LEAST_AREA..=MOST_AREA).contains(&area) && self.bytes.len() as u64 == area
     }

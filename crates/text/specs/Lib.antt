@@ -1,4 +1,5 @@
 pub mod Layers
+pub mod FaultText
 pub mod Marks
 pub mod Forms
 pub mod Document

@@ -2,10 +2,14 @@
 // verdicts. The reader's code meets these rules in a crate of its own. It stands on course and table.
 #![tactic(auto)]
 
-ghost use Rattle.std.specs.Prelude.{◌≡◌};
+ghost use Rattle.std.specs.Prelude.{◌≡◌, Some};
+ghost use Rattle.text.specs.declared.Layer.TheVariants.{Table};
 ghost use Rattle.text.specs.Layers.{layer_number};
+ghost use Rattle.text.specs.FaultText.{fault_text};
 
 use course::Refusal;
+use std::fmt;
+use table::Flaw;
 
 // What a byte of a text is: a bracket, a space or a line feed, which stands for itself; a letter; a digit; or outside the set.
 #[derive(Clone, Copy, PartialEq, Eq, Debug)]
@@ -26,12 +30,12 @@ pub enum Order {
     Route,
 }
 
-// The layer that finds a fault: the marks of the text, its forms, or the table that it holds.
+// The layer that finds a fault, by its number: the marks of the text, its forms, or the table that it holds.
 #[derive(Clone, Copy, PartialEq, Eq, Debug)]
 pub enum Layer {
-    Marks,
-    Forms,
-    Table,
+    Marks = 1,
+    Forms = 2,
+    Table = 3,
 }
 
 impl Layer {
@@ -39,11 +43,7 @@ impl Layer {
     pub fn number(self) -> u32
         ensures { result ≡ layer_number self }
     {
-        match self {
-            Layer::Marks => 1,
-            Layer::Forms => 2,
-            Layer::Table => 3,
-        }
+        self as u32
     }
 }
 
@@ -53,4 +53,38 @@ pub struct Fault {
     pub layer: Layer,
     pub cause: Refusal,
     pub place: usize,
+}
+
+impl Fault {
+    // The fault that a layer finds at a place.
+    pub fn new(layer: Layer, cause: Refusal, place: usize) -> Self
+        ensures { result ≡ record { layer = layer; cause = cause; place = place } }
+    {
+        Fault {
+            layer,
+            cause,
+            place,
+        }
+    }
+}
+
+// A flaw of a table is a fault of the table's layer.
+impl From<Flaw> for Fault {
+    ghost from_gives = { λ w f. f ≡ record { layer = Table; cause = w.cause; place = w.place } };
+
+    fn from(flaw: Flaw) -> Fault {
+        Fault::new(Layer::Table, flaw.cause, flaw.place)
+    }
+}
+
+// A fault prints as `fault`, then the numbers of its layer and its cause, and its place.
+impl fmt::Display for Fault {
+    ghost output = { λ f. Some (fault_text f) };
+
+    fn fmt<W: fmt::Write>(&self, f: &mut fmt::Formatter<W>) -> fmt::Result {
+        let layer = self.layer.number();
+        let cause = self.cause.number();
+        let place = self.place;
+        write!(f, "fault {layer} {cause} {place}")
+    }
 }

@@ -103,4 +103,4 @@ pub hands_up :
     → IsErrAnd r (λ y. y ≡ e) → Outcome R S (Err e) → ((f : Fault) → S f → Q f) → Outcome P Q r
 hands_up P Q R S e (Ok a) h k up = absurd h
 hands_up P Q R S (AtFault f) (Err d) h k up = rw h (up f k)
-hands_up P Q R S NoMemory (Err d) h k up = rw h tt
+hands_up P Q R S (NoMemory a) (Err d) h k up = rw h tt

@@ -24,7 +24,7 @@ pub outcome_map :
     {A : Type 0} (P P' : A → Type 0) (Q Q' : Fault → Type 0) → ((a : A) → P a → P' a) → ((f : Fault) → Q f → Q' f) → (r : Result A ReadError) → Outcome P Q r → Outcome P' Q' r
 outcome_map P P' Q Q' p q (Ok a) h = p a h
 outcome_map P P' Q Q' p q (Err (AtFault f)) h = q f h
-outcome_map P P' Q Q' p q (Err NoMemory) h = tt
+outcome_map P P' Q Q' p q (Err (NoMemory a)) h = tt
 
 module _ (h : Head) (from : Reader) where
   -- What follows the lines of the states, and what follows the estimates.

@@ -18,7 +18,7 @@ use Rattle.std.specs.declared.alloc.Global.{Global}
 abbrev pub Outcome : {A : Type 0} → (A → Type 0) → (Fault → Type 0) → Result A ReadError → Type 0
 Outcome P Q (Ok a) = P a
 Outcome P Q (Err (AtFault f)) = Q f
-Outcome P Q (Err NoMemory) = Unit {0}
+Outcome P Q (Err (NoMemory e)) = Unit {0}
 
 -- One cut more.
 abbrev pub Pushed : code.Cut → CutRows → CutRows → Result (Unit {0}) ReadError → Type 0

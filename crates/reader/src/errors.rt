@@ -1,5 +1,5 @@
 // Why a text was not read.
-ghost use Rattle.std.specs.Prelude.{◌≡◌};
+ghost use Rattle.std.specs.Prelude.{◌≡◌, alloc_error};
 ghost use Rattle.reader.specs.declared.errors.ReadError.TheVariants.{AtFault, NoMemory};
 
 use std::alloc::{AllocError, AllocFailed};
@@ -9,7 +9,7 @@ use text::Fault;
 #[derive(Clone, Copy, PartialEq, Eq, Debug)]
 pub enum ReadError {
     AtFault(Fault),
-    NoMemory,
+    NoMemory(AllocError),
 }
 
 impl From<Fault> for ReadError {
@@ -21,17 +21,17 @@ impl From<Fault> for ReadError {
 }
 
 impl From<AllocError> for ReadError {
-    ghost from_gives = { λ _ e. e ≡ NoMemory };
+    ghost from_gives = { λ a e. e ≡ NoMemory a };
 
-    fn from(_: AllocError) -> ReadError {
-        ReadError::NoMemory
+    fn from(error: AllocError) -> ReadError {
+        ReadError::NoMemory(error)
     }
 }
 
 impl<T: Drop> From<AllocFailed<T>> for ReadError {
-    ghost from_gives = { λ _ e. e ≡ NoMemory };
+    ghost from_gives = { λ _ e. e ≡ NoMemory alloc_error };
 
-    fn from(_refused: AllocFailed<T>) -> ReadError {
-        ReadError::NoMemory
+    fn from(failed: AllocFailed<T>) -> ReadError {
+        ReadError::NoMemory(failed.into())
     }
 }

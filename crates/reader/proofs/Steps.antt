@@ -1,59 +1,13 @@
 -- One form after another, and the first fault.
-use Rattle.std.proofs.Common.{◌≡◌, ℕ, ◌+◌, Bool, true, false, List, [], ◌∷◌, ◌++◌, drop, IsErrAnd, Ok, Err, Result, sym, refl, ap, ◌∙◌}
+use Rattle.std.proofs.Common.{◌≡◌, ℕ, List, ◌++◌, IsErrAnd, Ok, Err, Result, refl, ap, ◌∙◌}
 use Rattle.text.specs.declared.Fault.{Fault}
-use Rattle.text.specs.Marks.{next, width}
-use Rattle.text.specs.Forms.{Want, Form, Got, got, fault, and_then, unwanted, meets, keeps, follow}
+use Rattle.text.specs.Forms.{Form, got, and_then, follow}
 use Rattle.text.proofs.Forms.{goes, after, follow_append}
-use Rattle.reader.specs.declared.marks.Token.{Token}
-use Rattle.reader.specs.declared.marks.Token.TheVariants.{Sign, Word, Number, End}
-use Rattle.reader.specs.declared.marks.Mark.{Mark}
 use Rattle.reader.specs.declared.marks.Reader.{Reader}
 use Rattle.reader.specs.declared.errors.ReadError.{ReadError}
 use Rattle.reader.specs.declared.errors.ReadError.TheVariants.{AtFault, NoMemory}
 use Rattle.reader.specs.Rows.{Outcome}
-use Rattle.reader.specs.Meaning.{meant, Marked}
-use Rattle.reader.specs.Readings.{Takes, Reads, Went, Stopped, told, none, rest}
-use Rattle.reader.proofs.Wants.{met_one}
-
-stops : (w : Want) (f : Form) (p : ℕ) (bs : List ℕ) → meets w (next bs) ≡ false → follow (w ∷ f) p bs ≡ unwanted (next bs) p
-stops w f p bs e = ap turn e
-  where
-    turn : Bool → Got (List ℕ)
-    turn t =
-        elim t [
-          | true ↦ and_then (follow f (p + width bs) (drop (width bs) bs)) (λ ns q rest. got (keeps w (next bs) ns) q rest)
-          | false ↦ unwanted (next bs) p
-        ]
-
-is_unwanted : (t : Token) (p : ℕ) → unwanted {A = List ℕ} (meant t) p ≡ fault 2 3 p
-is_unwanted (Sign s) p = refl
-is_unwanted (Word w) p = refl
-is_unwanted (Number ds) p = refl
-is_unwanted End p = refl
-
--- A want that leaves no number behind, held against the mark in hand.
-pub wants_one :
-    (w : Want) (from to : Reader) (m : Mark) (met : Bool) (r : Result (Unit {0}) Fault)
-    → Marked from.text.now from.at m → met ≡ meets w (meant m.token) → keeps w (meant m.token) [] ≡ [] → Takes met m from to r
-    → Reads (w ∷ []) none from to r
-wants_one w from to m true r h e k t =
-    let xs = from.text.now in
-    rw (t.0, t.1)
-    (record {
-      same = refl;
-      tells =
-          met_one w xs from.at m.end (meant m.token) h.is h.ends (sym e) ∙ ap (λ ns. got ns m.end (drop m.end xs)) k;
-    })
-wants_one w from to m false r h e k t =
-    let bs = drop from.at from.text.now in
-    rw (t.0, t.1)
-    (record {
-      same = refl;
-      tells =
-          stops w [] from.at bs (ap (meets w) (sym h.is) ∙ sym e) ∙ ap (λ z. unwanted z from.at) (sym h.is)
-          ∙ is_unwanted m.token from.at
-          ∙ ap (fault 2 3) (sym h.here);
-    })
+use Rattle.reader.specs.Readings.{Reads, Went, Stopped, told, rest}
 
 pub went_then : {f g : Form} {ns ms : List ℕ} {from mid to : Reader} → Went f ns from mid → Went g ms mid to → Went (f ++ g) (ns ++ ms) from to
 went_then {f} {g} {ns} {ms} {from} {mid} {to} h k =

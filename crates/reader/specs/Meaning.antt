@@ -3,6 +3,7 @@ use Rattle.std.specs.Prelude.{◌≡◌, ℕ, ◌+◌, ◌≤◌, Bool, not, ◌
 use Rattle.std.specs.Str.Parse.{digits_value}
 use Rattle.std.specs.List.{AllByRecursion}
 use Rattle.course.specs.Refusals.{number_of}
+use Rattle.course.specs.declared.refusal.Refusal.{Refusal}
 use Rattle.text.specs.declared.Kind.{Kind}
 use Rattle.text.specs.declared.Kind.TheVariants.{Single, Letter, Digit, Outside}
 use Rattle.text.specs.declared.Fault.{Fault}
@@ -22,6 +23,11 @@ byte_of Opening = 40
 byte_of Closing = 41
 byte_of Space = 32
 byte_of LineFeed = 10
+
+-- The sign of a byte, or the byte where it is no sign.
+abbrev pub IsSignOf : ℕ → Result Sign ℕ → Type 0
+IsSignOf b (Ok s) = byte_of s ≡ b
+IsSignOf b (Err e) = (e ≡ b) × (is_single b ≡ mathlib.Core.Bool.false)
 
 -- Whether a byte is of a kind.
 abbrev pub of_kind : Kind → ℕ → Bool
@@ -47,6 +53,17 @@ Written (ASign s) = Unit {0}
 Written (Word w) = Unit {0}
 Written (Number ds) = Figures ds.now
 Written End = Unit {0}
+
+-- The mark in front of some bytes, and how many of them it takes; or why there is none.
+pub record Front (bs : List ℕ) (p : Token × ℕ) : Type 0 where
+  pub is : meant p.0 ≡ next bs
+  pub wide : p.1 ≡ width bs
+  pub few : p.1 ≤ length bs
+  pub written : Written p.0
+
+abbrev pub Fronts : List ℕ → Result (Token × ℕ) Refusal → Type 0
+Fronts bs (Ok p) = Front bs p
+Fronts bs (Err c) = next bs ≡ bad (number_of c)
 
 -- The mark in hand at a place of a text, or why there is none.
 pub record Marked (text : List ℕ) (at : ℕ) (m : Mark) : Type 0 where

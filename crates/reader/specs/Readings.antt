@@ -1,20 +1,22 @@
 -- What the reader's code answers, held against what the rules make of the text.
-use Rattle.std.specs.Prelude.{◌≡◌, ℕ, Bool, true, false, List, [], ◌∷◌, drop, Ok, Err, Result}
+use Rattle.std.specs.Prelude.{◌≡◌, ℕ, List, [], ◌∷◌, drop, Ok, Err, Result}
 use Rattle.course.specs.Refusals.{number_of}
 use Rattle.text.specs.declared.Fault.{Fault}
-use Rattle.course.specs.declared.refusal.Refusal.TheVariants.{MarkUnwanted}
-use Rattle.text.specs.declared.Layer.TheVariants.{Forms}
 use Rattle.text.specs.Layers.{layer_number}
-use Rattle.text.specs.Forms.{Form, Got, got, fault, follow, the_sign, the_word, a_number}
+use Rattle.text.specs.Forms as rules
+use Rattle.text.specs.Forms.{Form, Got, got, fault, follow, the_sign, the_word, the_number, a_number}
 use Rattle.reader.specs.declared.marks.Reader.{Reader}
-use Rattle.reader.specs.declared.marks.Mark.{Mark}
+use Rattle.reader.specs.declared.forms.Want.{Want}
+use Rattle.reader.specs.declared.forms.Want.TheVariants.{Sign as ASign, Word, Number}
+use Rattle.reader.specs.Meaning.{byte_of}
 use Rattle.reader.specs.declared.forms.Head.{Head}
 use Rattle.reader.specs.declared.forms.Cut.{Cut}
 
--- The mark in hand is taken if it is wanted; else it is told as unwanted, and the reader stays.
-abbrev pub Takes : Bool → Mark → Reader → Reader → Result (Unit {0}) Fault → Type 0
-Takes true m from to r = (to ≡ record { text = from.text; at = m.end }) × (r ≡ Ok tt)
-Takes false m from to r = (to ≡ from) × (r ≡ Err (record { layer = Forms; cause = MarkUnwanted; place = m.place }))
+-- The want of the rules.
+abbrev pub wanted : Want → rules.Want
+wanted (ASign s) = the_sign (byte_of s)
+wanted (Word w) = the_word w.now
+wanted (Number n) = the_number n
 
 -- A fault of the rules, by its numbers.
 abbrev pub told : {B : Type 0} → Fault → Got B

@@ -65,12 +65,12 @@ impl Document {
 
 impl<'a> Reader<'a> {
     // What follows the first line.
-    fn body(&mut self, heap: Global, head: Head) -> Result<Document, ReadError>
+    fn body(&mut self, alloc: Global, head: Head) -> Result<Document, ReadError>
         ensures { BodyTold head self.old self.new result }
     {
-        let lines = self.state_lines(heap, head.states)?;
-        let estimates = self.estimates(heap, head.states)?;
-        let orders = self.orders(heap)?;
+        let lines = self.state_lines(alloc, head.states)?;
+        let estimates = self.estimates(alloc, head.states)?;
+        let orders = self.orders(alloc)?;
         Ok(Document {
             firsts: lines.firsts,
             targets: lines.cuts.targets,
@@ -84,7 +84,7 @@ impl<'a> Reader<'a> {
 }
 
 // The document of a text, whatever its length, its table not yet checked.
-fn whole(heap: Global, text: &[u8]) -> Result<Document, ReadError>
+fn whole(alloc: Global, text: &[u8]) -> Result<Document, ReadError>
     ensures { DocumentTold text.now result }
 {
     let mut reader = Reader::new(text);
@@ -96,12 +96,12 @@ fn whole(heap: Global, text: &[u8]) -> Result<Document, ReadError>
             place: 0,
         }));
     }
-    reader.body(heap, head)
+    reader.body(alloc, head)
 }
 
 // What a text holds, or why it is refused. Every text whatever has an answer, unless memory fails; and the laws hold of the verdicts on
 // all texts.
-pub fn read(heap: Global, text: &[u8]) -> Result<Document, ReadError>
+pub fn read(alloc: Global, text: &[u8]) -> Result<Document, ReadError>
     ensures verdict { Answers text.now result }
     ensures laws { VerdictLaws }
 {
@@ -112,7 +112,7 @@ pub fn read(heap: Global, text: &[u8]) -> Result<Document, ReadError>
             place: MOST_BYTES,
         }));
     }
-    let document = whole(heap, text)?;
+    let document = whole(alloc, text)?;
     document.check()?;
     Ok(document)
 }

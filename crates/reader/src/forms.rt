@@ -4,8 +4,8 @@ ghost use Rattle.course.specs.declared.refusal.Refusal.TheVariants.{MarkUnwanted
 ghost use Rattle.text.specs.declared.Layer.TheVariants.{Forms};
 ghost use Rattle.text.specs.Forms.{the_sign, the_word, the_number, a_number, meets};
 ghost use Rattle.text.specs.Document.{opening, space, line_end, first_line, from, a_cut, spaced_numbers};
-ghost use Rattle.reader.specs.Meaning.{byte_of, meant, Written};
-ghost use Rattle.reader.specs.Readings.{Takes, Reads, none, one, pair, headed, cutting, named_number};
+ghost use Rattle.reader.specs.Meaning.{meant, Written};
+ghost use Rattle.reader.specs.Readings.{wanted, Reads, none, one, pair, headed, cutting, named_number};
 
 use crate::marks::{Mark, Reader, Sign, Token, value_of};
 use course::Refusal;
@@ -26,82 +26,46 @@ pub(crate) struct Cut {
     pub(crate) cost: u32,
 }
 
-pub(crate) fn is_sign(token: Token<'_>, sign: Sign) -> bool
-    ensures { result ≡ meets (the_sign (byte_of sign)) (meant token.entry) }
-{
-    match token {
-        Token::Sign(found) => sign.byte() == found.byte(),
-        _ => false,
-    }
+// What is wanted at a place: this sign, this word or this number.
+#[derive(Clone, Copy)]
+pub(crate) enum Want<'w> {
+    Sign(Sign),
+    Word(&'w [u8]),
+    Number(u32),
 }
 
-pub(crate) fn is_word(token: Token<'_>, word: &[u8]) -> bool
-    ensures { result ≡ meets (the_word word.now) (meant token.entry) }
-{
-    match token {
-        Token::Word(found) => word == found,
-        _ => false,
-    }
-}
-
-fn is_number(token: Token<'_>, n: u32) -> bool
-    requires { Written token }
-    ensures { result ≡ meets (the_number n) (meant token.entry) }
-{
-    match token {
-        Token::Number(digits) => n == value_of(digits),
-        _ => false,
+impl Token<'_> {
+    // Whether it is the one wanted.
+    pub(crate) fn meets(self, want: Want<'_>) -> bool
+        requires { Written self }
+        ensures { result ≡ meets (wanted want.entry) (meant self.entry) }
+    {
+        match (self, want) {
+            (Token::Sign(found), Want::Sign(sign)) => found == sign,
+            (Token::Word(found), Want::Word(word)) => found == word,
+            (Token::Number(digits), Want::Number(n)) => value_of(digits) == n,
+            _ => false,
+        }
     }
 }
 
 pub(crate) fn unwanted(mark: Mark<'_>) -> Fault
     ensures { result ≡ record { layer = Forms; cause = MarkUnwanted; place = mark.entry.place } }
 {
-    Fault {
-        layer: Layer::Forms,
-        cause: Refusal::MarkUnwanted,
-        place: mark.place,
-    }
+    Fault::new(Layer::Forms, Refusal::MarkUnwanted, mark.place)
 }
 
 impl<'a> Reader<'a> {
     // Takes the mark in hand, if it is the one wanted.
-    fn take(&mut self, mark: Mark<'a>, wanted: bool) -> Result<(), Fault>
-        ensures { Takes wanted mark.entry self.old self.new result }
+    pub(crate) fn take(&mut self, want: Want<'_>) -> Result<(), Fault>
+        ensures { Reads (wanted want.entry ∷ []) none self.old self.new result }
     {
-        if wanted {
-            self.at = mark.end;
-            Ok(())
-        } else {
-            Err(unwanted(mark))
+        let mark = self.peek()?;
+        if !mark.token.meets(want) {
+            return Err(unwanted(mark));
         }
-    }
-
-    // this sign
-    pub(crate) fn sign(&mut self, sign: Sign) -> Result<(), Fault>
-        ensures { Reads (the_sign (byte_of sign) ∷ []) none self.old self.new result }
-    {
-        let mark = self.peek()?;
-        let wanted = is_sign(mark.token, sign);
-        self.take(mark, wanted)
-    }
-
-    // this word
-    pub(crate) fn word(&mut self, word: &[u8]) -> Result<(), Fault>
-        ensures { Reads (the_word word.now ∷ []) none self.old self.new result }
-    {
-        let mark = self.peek()?;
-        let wanted = is_word(mark.token, word);
-        self.take(mark, wanted)
-    }
-
-    // this number
-    pub(crate) fn this_number(&mut self, n: u32) -> Result<(), Fault>
-        ensures { Reads (the_number n ∷ []) none self.old self.new result }
-    {
-        let mark = self.peek()?;
-        let wanted = is_number(mark.token, n);
-        self.take(mark, wanted)
+        self.at = mark.end;
+        Ok(())
     }
 
     // any number
@@ -120,15 +84,15 @@ impl<'a> Reader<'a> {
     pub(crate) fn opening(&mut self, word: &[u8]) -> Result<(), Fault>
         ensures { Reads (the_sign 40 ∷ the_word word.now ∷ []) none self.old self.new result }
     {
-        self.sign(Sign::Opening)?;
-        self.word(word)
+        self.take(Want::Sign(Sign::Opening))?;
+        self.take(Want::Word(word))
     }
 
     // a space and a number
     pub(crate) fn spaced_number(&mut self) -> Result<u32, Fault>
         ensures { Reads (the_sign 32 ∷ a_number ∷ []) one self.old self.new result }
     {
-        self.sign(Sign::Space)?;
+        self.take(Want::Sign(Sign::Space))?;
         self.number()
     }
 
@@ -136,18 +100,18 @@ impl<'a> Reader<'a> {
     fn named_number(&mut self, word: &[u8]) -> Result<u32, Fault>
         ensures { Reads (named_number word.now) one self.old self.new result }
     {
-        self.sign(Sign::Space)?;
+        self.take(Want::Sign(Sign::Space))?;
         self.opening(word)?;
         let n = self.spaced_number()?;
-        self.sign(Sign::Closing)?;
+        self.take(Want::Sign(Sign::Closing))?;
         Ok(n)
     }
     // `)` and a line feed
     pub(crate) fn line_end(&mut self) -> Result<(), Fault>
         ensures { Reads line_end none self.old self.new result }
     {
-        self.sign(Sign::Closing)?;
-        self.sign(Sign::LineFeed)
+        self.take(Want::Sign(Sign::Closing))?;
+        self.take(Want::Sign(Sign::LineFeed))
     }
 
     // `(last # (start #) (goal #))` and a line feed
@@ -171,16 +135,16 @@ impl<'a> Reader<'a> {
         ensures { Reads (from u) none self.old self.new result }
     {
         self.opening(b"from")?;
-        self.sign(Sign::Space)?;
-        self.this_number(u)
+        self.take(Want::Sign(Sign::Space))?;
+        self.take(Want::Number(u))
     }
 
     // ` (`
     pub(crate) fn spaced_opening(&mut self) -> Result<(), Fault>
         ensures { Reads (space ∷ opening ∷ []) none self.old self.new result }
     {
-        self.sign(Sign::Space)?;
-        self.sign(Sign::Opening)
+        self.take(Want::Sign(Sign::Space))?;
+        self.take(Want::Sign(Sign::Opening))
     }
 
     // ` (# #)`
@@ -190,7 +154,7 @@ impl<'a> Reader<'a> {
         self.spaced_opening()?;
         let target = self.number()?;
         let cost = self.spaced_number()?;
-        self.sign(Sign::Closing)?;
+        self.take(Want::Sign(Sign::Closing))?;
         Ok(Cut { target, cost })
     }
 

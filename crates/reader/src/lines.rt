@@ -8,10 +8,10 @@ ghost use Rattle.reader.specs.Readings.{rest, told};
 ghost use Rattle.reader.specs.Rows.{Pushed, CutsTold, LineTold, LinesTold, EstimatesTold};
 
 use crate::errors::ReadError;
-use crate::forms::{Cut, is_sign};
+use crate::forms::{Cut, Want};
 use crate::marks::{Reader, Sign};
 use course::Refusal;
-use std::alloc::{AllocError, Global};
+use std::alloc::Global;
 use text::{Fault, Layer};
 
 // As many cuts as a text may hold.
@@ -32,12 +32,12 @@ pub(crate) struct Lines {
 }
 
 impl CutRows {
-    fn new(heap: Global) -> Self
+    fn new(alloc: Global) -> Self
         ensures { (result.targets.items ≡ []) × (result.costs.items ≡ []) }
     {
         CutRows {
-            targets: Vec::new(heap),
-            costs: Vec::new(heap),
+            targets: Vec::new(alloc),
+            costs: Vec::new(alloc),
         }
     }
 
@@ -63,10 +63,8 @@ impl<'a> Reader<'a> {
     fn closes(&self) -> bool
         ensures { result ≡ meets closing (next (rest self.now)) }
     {
-        match self.peek() {
-            Ok(mark) => is_sign(mark.token, Sign::Closing),
-            Err(_) => false,
-        }
+        self.peek()
+            .is_ok_and(|mark| mark.token.meets(Want::Sign(Sign::Closing)))
     }
 
     // The fault where no more cuts may stand: a cut is told at its opening bracket.
@@ -74,11 +72,11 @@ impl<'a> Reader<'a> {
         ensures { meets closing (next (rest self.old)) ≡ false → cuts_from 0 self.old.at (rest self.old) ≡ told result }
     {
         match self.spaced_opening() {
-            Ok(()) => Fault {
-                layer: Layer::Forms,
-                cause: Refusal::TextTooLong,
-                place: self.at.saturating_sub(1),
-            },
+            Ok(()) => Fault::new(
+                Layer::Forms,
+                Refusal::TextTooLong,
+                self.at.saturating_sub(1),
+            ),
             Err(fault) => fault,
         }
     }
@@ -112,11 +110,11 @@ impl<'a> Reader<'a> {
     }
 
     // A line for each state, from state 0 on.
-    pub(crate) fn state_lines(&mut self, heap: Global, states: u32) -> Result<Lines, ReadError>
+    pub(crate) fn state_lines(&mut self, alloc: Global, states: u32) -> Result<Lines, ReadError>
         ensures { LinesTold states self.old self.new result }
     {
-        let mut firsts = Vec::new(heap);
-        let mut cuts = CutRows::new(heap);
+        let mut firsts = Vec::new(alloc);
+        let mut cuts = CutRows::new(alloc);
         for u in 0..states {
             self.state_line(u, &mut firsts, &mut cuts)?;
         }
@@ -125,11 +123,11 @@ impl<'a> Reader<'a> {
     }
 
     // `(estimates`, a number for each state, and the end of the line.
-    pub(crate) fn estimates(&mut self, heap: Global, states: u32) -> Result<Vec<u32>, ReadError>
+    pub(crate) fn estimates(&mut self, alloc: Global, states: u32) -> Result<Vec<u32>, ReadError>
         ensures { EstimatesTold states self.old self.new result }
     {
         self.opening(b"estimates")?;
-        let mut estimates = Vec::new(heap);
+        let mut estimates = Vec::new(alloc);
         for i in 0..states {
             let estimate = self.spaced_number()?;
             estimates.push(estimate)?;

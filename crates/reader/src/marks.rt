@@ -1,11 +1,9 @@
 // The marks of a text, one after another.
-ghost use Rattle.std.specs.Prelude.{◌≡◌, ◌+◌, ◌<◌, ◌≤◌, [], ◌∷◌, length, drop};
-ghost use Rattle.std.specs.List.{prefix_len};
+ghost use Rattle.std.specs.Prelude.{◌≡◌, take_while};
 ghost use Rattle.std.specs.Str.Parse.{digits_value};
-ghost use Rattle.text.specs.declared.Kind.TheVariants.{Single};
-ghost use Rattle.text.specs.declared.Layer.TheVariants.{Marks};
-ghost use Rattle.text.specs.Marks.{kind, next, width, badly_written};
-ghost use Rattle.reader.specs.Meaning.{byte_of, of_kind, Taken, Figures, behind};
+ghost use Rattle.text.specs.Marks.{badly_written};
+ghost use Rattle.reader.specs.Readings.{rest};
+ghost use Rattle.reader.specs.Meaning.{IsSignOf, of_kind, Taken, Figures, Fronts, behind};
 
 use crate::kinds::kind_of;
 use course::Refusal;
@@ -20,21 +18,25 @@ pub enum Sign {
     LineFeed,
 }
 
-impl Sign {
-    pub(crate) fn byte(self) -> u8
-        ensures { result ≡ byte_of self }
-    {
-        match self {
-            Sign::Opening => b'(',
-            Sign::Closing => b')',
-            Sign::Space => b' ',
-            Sign::LineFeed => b'\n',
+// A byte that stands for itself is a sign; any other is given back.
+impl TryFrom<u8> for Sign {
+    type Error = u8;
+
+    ghost try_from_gives = { IsSignOf };
+
+    fn try_from(byte: u8) -> Result<Sign, u8> {
+        match byte {
+            b'(' => Ok(Sign::Opening),
+            b')' => Ok(Sign::Closing),
+            b' ' => Ok(Sign::Space),
+            b'\n' => Ok(Sign::LineFeed),
+            _ => Err(byte),
         }
     }
 }
 
 // What a mark is: a sign, a word or a number with its bytes, or the end of the text.
-#[derive(Clone, Copy)]
+#[derive(Clone, Copy, PartialEq, Eq, Debug)]
 pub enum Token<'a> {
     Sign(Sign),
     Word(&'a [u8]),
@@ -43,7 +45,7 @@ pub enum Token<'a> {
 }
 
 // A part of the text: what it is, the place of its first byte, and the place behind its last.
-#[derive(Clone, Copy)]
+#[derive(Clone, Copy, PartialEq, Eq, Debug)]
 pub struct Mark<'a> {
     pub token: Token<'a>,
     pub place: usize,
@@ -59,35 +61,19 @@ pub struct Reader<'a> {
 
 const MOST_DIGITS: usize = 7;
 
-fn sign_of(b: u8) -> Sign
-    ensures { kind b ≡ Single → byte_of result ≡ b }
+// The longest front of some bytes that is of one kind.
+fn run(bytes: &[u8], kind: Kind) -> &[u8]
+    ensures { result.now ≡ take_while (of_kind kind) bytes.now }
 {
-    match b {
-        b'(' => Sign::Opening,
-        b')' => Sign::Closing,
-        b' ' => Sign::Space,
-        _ => Sign::LineFeed,
-    }
-}
-
-// Where the run of bytes of one kind ends that stands at a place.
-fn run_end(text: &[u8], at: usize, kind: Kind) -> usize
-    requires { at ≤ length text.now }
-    ensures is { result ≡ at + prefix_len (of_kind kind) (drop at text.now) }
-    ensures within { result ≤ length text.now }
-{
-    let mut end = at;
-    while end < text.len() && kind_of(text[end]) == kind {
-        end += 1;
-    }
-    end
+    let length = bytes.iter().take_while(|b| kind_of(**b) == kind).count();
+    &bytes[..length]
 }
 
 // More than seven digits, or a leading 0 and something after it.
 fn badly_written(digits: &[u8]) -> bool
     ensures { result ≡ badly_written digits.now }
 {
-    digits.len() > MOST_DIGITS || (digits.len() > 1 && digits[0] == b'0')
+    digits.len() > MOST_DIGITS || matches!(digits, [b'0', _, ..])
 }
 
 // The number that at most seven digits write.
@@ -102,14 +88,27 @@ pub(crate) fn value_of(digits: &[u8]) -> u32
     n
 }
 
-// What stands at a place is no mark.
-fn no_mark(cause: Refusal, place: usize) -> Fault
-    ensures { result ≡ record { layer = Marks; cause = cause; place = place } }
+// What stands in front of some bytes, and how many of them it takes; or why it is no mark.
+fn front(bytes: &[u8]) -> Result<(Token<'_>, usize), Refusal>
+    ensures { Fronts bytes.now result }
 {
-    Fault {
-        layer: Layer::Marks,
-        cause,
-        place,
+    let Some(b) = bytes.first() else {
+        return Ok((Token::End, 0));
+    };
+    match kind_of(*b) {
+        Kind::Single => Ok((Token::Sign(Sign::try_from(*b).unwrap()), 1)),
+        Kind::Letter => {
+            let word = run(bytes, Kind::Letter);
+            Ok((Token::Word(word), word.len()))
+        }
+        Kind::Digit => {
+            let digits = run(bytes, Kind::Digit);
+            if badly_written(digits) {
+                return Err(Refusal::NumberBadlyWritten);
+            }
+            Ok((Token::Number(digits), digits.len()))
+        }
+        Kind::Outside => Err(Refusal::ByteOutside),
     }
 }
 
@@ -121,47 +120,28 @@ impl<'a> Reader<'a> {
         Reader { text, at: 0 }
     }
 
+    // What is left of the text.
+    fn rest(&self) -> &'a [u8]
+        ensures { result.now ≡ rest self.now }
+    {
+        self.text.get(self.at..).unwrap_or(&[])
+    }
+
     // The mark in hand.
     pub(crate) fn peek(&self) -> Result<Mark<'a>, Fault>
         ensures { Taken self.now.text.now self.now.at result }
     {
         let place = self.at;
-        if place >= self.text.len() {
-            return Ok(Mark {
-                token: Token::End,
-                place,
-                end: place,
-            });
-        }
-        let b = self.text[place];
-        match kind_of(b) {
-            Kind::Single => Ok(Mark {
-                token: Token::Sign(sign_of(b)),
-                place,
-                end: place + 1,
-            }),
-            Kind::Letter => {
-                let end = run_end(self.text, place, Kind::Letter);
-                Ok(Mark {
-                    token: Token::Word(&self.text[place..end]),
-                    place,
-                    end,
-                })
-            }
-            Kind::Digit => {
-                let end = run_end(self.text, place, Kind::Digit);
-                let digits = &self.text[place..end];
-                if badly_written(digits) {
-                    return Err(no_mark(Refusal::NumberBadlyWritten, place));
-                }
-                Ok(Mark {
-                    token: Token::Number(digits),
-                    place,
-                    end,
-                })
-            }
-            Kind::Outside => Err(no_mark(Refusal::ByteOutside, place)),
-        }
+        let (token, width) = front(self.rest()).map_err(|cause| Fault::new(
+            Layer::Marks,
+            cause,
+            place,
+        ))?;
+        Ok(Mark {
+            token,
+            place,
+            end: place + width,
+        })
     }
 
     // The next mark, and the reader moves behind it. Where there is none the reader stays.

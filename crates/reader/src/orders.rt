@@ -8,7 +8,7 @@ ghost use Rattle.reader.specs.Readings.{Reads};
 ghost use Rattle.reader.specs.Orders.{spoken, Named, OrderTold, OrderLineTold, OrdersTold};
 
 use crate::errors::ReadError;
-use crate::forms::{is_word, unwanted};
+use crate::forms::{Want, unwanted};
 use crate::marks::{Reader, Sign, Token};
 use std::alloc::Global;
 use text::{Fault, Order};
@@ -27,18 +27,13 @@ pub(crate) enum Verb {
 fn verb_of(token: Token<'_>) -> Option<Verb>
     ensures { option_map spoken result ≡ verb_of (meant token.entry) }
 {
-    if is_word(token, b"ratio") {
-        Some(Verb::Ratio)
-    } else if is_word(token, b"work") {
-        Some(Verb::Work)
-    } else if is_word(token, b"ceiling") {
-        Some(Verb::Ceiling)
-    } else if is_word(token, b"show") {
-        Some(Verb::Show)
-    } else if is_word(token, b"route") {
-        Some(Verb::Route)
-    } else {
-        None
+    match token {
+        Token::Word(b"ratio") => Some(Verb::Ratio),
+        Token::Word(b"work") => Some(Verb::Work),
+        Token::Word(b"ceiling") => Some(Verb::Ceiling),
+        Token::Word(b"show") => Some(Verb::Show),
+        Token::Word(b"route") => Some(Verb::Route),
+        _ => None,
     }
 }
 
@@ -82,15 +77,15 @@ impl<'a> Reader<'a> {
     fn order_line(&mut self) -> Result<Order, Fault>
         ensures { OrderLineTold self.old self.new result }
     {
-        self.sign(Sign::Opening)?;
+        self.take(Want::Sign(Sign::Opening))?;
         self.order()
     }
 
     // The orders up to the end of the text.
-    pub(crate) fn orders(&mut self, heap: Global) -> Result<Vec<Order>, ReadError>
+    pub(crate) fn orders(&mut self, alloc: Global) -> Result<Vec<Order>, ReadError>
         ensures { OrdersTold self.old self.new result }
     {
-        let mut orders = Vec::new(heap);
+        let mut orders = Vec::new(alloc);
         while self.at < self.text.len() {
             let order = self.order_line()?;
             orders.push(order)?;

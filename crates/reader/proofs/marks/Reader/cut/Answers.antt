@@ -1,6 +1,6 @@
 use Rattle.std.proofs.Common.{[], ◌∷◌, ◌++◌}
 use Rattle.text.specs.Forms.{the_sign, a_number}
-use Rattle.reader.proofs.Steps.{went_then, stopped_first, stopped_then, passes_up}
+use Rattle.reader.proofs.Steps.{stopped_first, stopped_then, passes_up}
 use Rattle.reader.proofs.marks.Reader.cut.Goals as goal
 
 pub returns-in_err-spaced_opening : goal.returns-in_err-spaced_opening
@@ -18,10 +18,7 @@ returns-in_err-cost c =
     passes_up _ _ _ _ c.in_err-cost.field-0.0 c.from_residual-in_err-cost.result c.from_residual-in_err-cost.ensures.1
     (stopped_then c.in_ok-spaced_opening.ensures (stopped_then c.in_ok-target.ensures (stopped_first (the_sign 41 ∷ []) c.in_err-cost.ensures)))
 
-pub returns-in_err-sign : goal.returns-in_err-sign
-returns-in_err-sign c =
-    passes_up _ _ _ _ c.in_err-sign.field-0.0 c.from_residual-in_err-sign.result c.from_residual-in_err-sign.ensures.1
-    (stopped_then c.in_ok-spaced_opening.ensures (stopped_then c.in_ok-target.ensures (stopped_then c.in_ok-cost.ensures c.in_err-sign.ensures)))
-
-pub returns : goal.returns
-returns c = went_then c.in_ok-spaced_opening.ensures (went_then c.in_ok-target.ensures (went_then c.in_ok-cost.ensures c.in_ok-sign.ensures))
+pub returns-in_err-take : goal.returns-in_err-take
+returns-in_err-take c =
+    passes_up _ _ _ _ c.in_err-take.field-0.0 c.from_residual-in_err-take.result c.from_residual-in_err-take.ensures.1
+    (stopped_then c.in_ok-spaced_opening.ensures (stopped_then c.in_ok-target.ensures (stopped_then c.in_ok-cost.ensures c.in_err-take.ensures)))

@@ -1,5 +1,5 @@
 use Rattle.text.specs.Document.{line_end}
-use Rattle.reader.proofs.Steps.{went_then, stopped_first, stopped_then, passes_up}
+use Rattle.reader.proofs.Steps.{stopped_first, stopped_then, passes_up}
 use Rattle.reader.proofs.marks.Reader.last_number.Goals as goal
 
 pub returns-in_err-n : goal.returns-in_err-n
@@ -11,6 +11,3 @@ pub returns-in_err-line_end : goal.returns-in_err-line_end
 returns-in_err-line_end c =
     passes_up _ _ _ _ c.in_err-line_end.field-0.0 c.from_residual-in_err-line_end.result c.from_residual-in_err-line_end.ensures.1
     (stopped_then c.in_ok-n.ensures c.in_err-line_end.ensures)
-
-pub returns : goal.returns
-returns c = went_then c.in_ok-n.ensures c.in_ok-line_end.ensures

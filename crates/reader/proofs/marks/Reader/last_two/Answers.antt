@@ -1,7 +1,7 @@
 use Rattle.std.proofs.Common.{◌∷◌}
 use Rattle.text.specs.Forms.{the_sign, a_number}
 use Rattle.text.specs.Document.{line_end}
-use Rattle.reader.proofs.Steps.{went_then, stopped_first, stopped_then, passes_up}
+use Rattle.reader.proofs.Steps.{stopped_first, stopped_then, passes_up}
 use Rattle.reader.proofs.marks.Reader.last_two.Goals as goal
 
 pub returns-in_err-first : goal.returns-in_err-first
@@ -13,6 +13,3 @@ pub returns-in_err-second : goal.returns-in_err-second
 returns-in_err-second c =
     passes_up _ _ _ _ c.in_err-second.field-0.0 c.from_residual-in_err-second.result c.from_residual-in_err-second.ensures.1
     (stopped_then c.in_ok-first.ensures c.in_err-second.ensures)
-
-pub returns : goal.returns
-returns c = went_then c.in_ok-first.ensures c.in_ok-second.ensures

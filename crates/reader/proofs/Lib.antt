@@ -1,5 +1,4 @@
 pub mod OfKind
-pub mod InHand
 pub mod Numbers
 pub mod Wants
 pub mod Steps

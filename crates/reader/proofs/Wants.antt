@@ -15,6 +15,3 @@ met_one w xs at stop m e l t =
     let n = width (drop at xs) in
     follow_step w [] at (drop at xs) m n [] stop (drop stop xs) (sym e) refl t
     (ap (λ z. got [] z (drop n (drop at xs))) (sym l) ∙ ap (λ z. got [] stop z) (drop-drop n at xs ∙ ap (λ z. drop z xs) (sym l)))
-
-pub same_tested : (xs ys : List ℕ) (r : Bool) → Decides r (xs ≡ ys) → r ≡ bytes_eq xs ys
-same_tested xs ys r h = search (rules, bytes_eq-Decides)

@@ -1,7 +1,8 @@
 -- A whole text: its first line, and what follows it.
-use Rattle.std.proofs.Common.{◌≡◌, ℕ, ◌<◌, ◌≤◌, Bool, true, false, ◌&&◌, leb, ◌⊎◌, List, length, get_or, drop, Ok, Err, vec_items, Result, Vec, sym, refl, ap, ◌∙◌, inl, inr}
+use Rattle.std.proofs.Common.{◌≡◌, ℕ, Bool, true, false, ◌&&◌, leb, Decides, List, length, get_or, drop, Ok, Err, vec_items, Result, Vec, sym, refl, ap, ◌∙◌, arith}
 use Rattle.std.specs.declared.alloc.Global.{Global}
-use Rattle.std.proofs.lemmas.Bool.{and_from, and_left, and_right, le-leb, lt-leb}
+use Rattle.std.proofs.lemmas.Bool.Decides.{nat_tests, same_from_decides}
+use Rattle.text.specs.Causes.{Allowed}
 use Rattle.text.specs.declared.Fault.{Fault}
 use Rattle.text.specs.declared.Order.{Order}
 use Rattle.text.specs.Forms.{Form, Got, got, fault, and_then, follow}
@@ -91,6 +92,9 @@ body_read h from mid after to lines hs os l w c =
 begins_at : (text : List ℕ) (from : Reader) → (from.text.now ≡ text) × (from.at ≡ 0) → (f : Form) → follow f 0 text ≡ follow f from.at (rest from)
 begins_at text from s f = ap (λ xs. follow f 0 xs) (sym s.0) ∙ ap (λ p. follow f p (drop p from.text.now)) (sym s.1)
 
+count_decided : (n : ℕ) → Decides (leb 2 n && leb n 1024) (Allowed n)
+count_decided n = (λ h. grind (arith, nat_tests), λ h. grind (arith, nat_tests))
+
 module _ (text : List ℕ) (from mid : Reader) (s : (from.text.now ≡ text) × (from.at ≡ 0)) where
   counted : ℕ → ℕ → ℕ → ℕ → List ℕ → Bool → Got rules.Document
   counted n g e q left t = elim t [ true ↦ body n g e q left | false ↦ fault 3 5 0 ]
@@ -116,17 +120,21 @@ module _ (text : List ℕ) (from mid : Reader) (s : (from.text.now ≡ text) × 
         (begins_at text from s first_line ∙ w.tells)
         refl
 
-    pub miscounted : (h.states < 2) ⊎ (1024 < h.states) → document text ≡ fault 3 5 0
-    unfolding counted allowed
-    miscounted (inl low) = behind_head ∙ ap (counted h.states h.start h.goal mid.at (rest mid)) (and_left (leb 2 h.states) (leb h.states 1024) (lt-leb 2 h.states low))
-    miscounted (inr high) = behind_head ∙ ap (counted h.states h.start h.goal mid.at (rest mid)) (and_right (leb 2 h.states) (leb h.states 1024) (lt-leb h.states 1024 high))
-
-    pub well_counted : 2 ≤ h.states → h.states ≤ 1024 → document text ≡ body h.states h.start h.goal mid.at (rest mid)
-    unfolding counted allowed
-    well_counted low high =
+    -- The reading goes on exactly where the number of states is allowed.
+    counted_by : (t : Bool) → Decides t (Allowed h.states) → document text ≡ counted h.states h.start h.goal mid.at (rest mid) t
+    unfolding allowed
+    counted_by t d =
         behind_head
         ∙ ap (counted h.states h.start h.goal mid.at (rest mid))
-        (and_from (leb 2 h.states) (leb h.states 1024) (le-leb 2 h.states low) (le-leb h.states 1024 high))
+        (same_from_decides (leb 2 h.states && leb h.states 1024) t (count_decided h.states) d)
 
-    pub document_read : (to : Reader) (d : Document) → 2 ≤ h.states → h.states ≤ 1024 → BodyRead h mid to d → DocumentRead text d
-    document_read to d low high b = record { is = b.is; place = to.at; left = rest to; reads = well_counted low high ∙ b.reads; held = b.held }
+    pub miscounted : (t : Bool) → Decides t (Allowed h.states) → t ≡ false → document text ≡ fault 3 5 0
+    unfolding counted
+    miscounted t d e = counted_by t d ∙ ap (counted h.states h.start h.goal mid.at (rest mid)) e
+
+    pub well_counted : (t : Bool) → Decides t (Allowed h.states) → t ≡ true → document text ≡ body h.states h.start h.goal mid.at (rest mid)
+    unfolding counted
+    well_counted t d e = counted_by t d ∙ ap (counted h.states h.start h.goal mid.at (rest mid)) e
+
+    pub document_read : (to : Reader) (d : Document) → document text ≡ body h.states h.start h.goal mid.at (rest mid) → BodyRead h mid to d → DocumentRead text d
+    document_read to d e b = record { is = b.is; place = to.at; left = rest to; reads = e ∙ b.reads; held = b.held }

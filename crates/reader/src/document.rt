@@ -1,6 +1,7 @@
 // What a text holds, and the verdict on every text.
-ghost use Rattle.std.specs.Prelude.{◌≡◌};
+ghost use Rattle.std.specs.Prelude.{◌≡◌, Decides};
 ghost use Rattle.table.specs.Checks.{rows_in, Checked};
+ghost use Rattle.text.specs.Causes.{Allowed};
 ghost use Rattle.text.specs.Promises.{VerdictLaws};
 ghost use Rattle.reader.specs.Documents.{rows_of, BodyTold, DocumentTold, CheckTold};
 ghost use Rattle.reader.specs.Verdict.{Answers};
@@ -10,7 +11,7 @@ use crate::forms::Head;
 use crate::marks::Reader;
 use course::Refusal;
 use std::alloc::Global;
-use table::{Flaw, TableRows};
+use table::TableRows;
 use text::{Fault, Layer, Order};
 
 // As many bytes as a text may have.
@@ -52,14 +53,7 @@ impl Document {
     fn check(&self) -> Result<(), Fault>
         ensures { CheckTold (rows_of self.now) result }
     {
-        match self.rows().check() {
-            Ok(()) => Ok(()),
-            Err(Flaw { cause, place }) => Err(Fault {
-                layer: Layer::Table,
-                cause,
-                place,
-            }),
-        }
+        Ok(self.rows().check()?)
     }
 }
 
@@ -83,18 +77,21 @@ impl<'a> Reader<'a> {
     }
 }
 
+// Whether a text may have so many states.
+fn allowed(states: u32) -> bool
+    ensures { Decides result (Allowed states) }
+{
+    (LEAST_STATES..=MOST_STATES).contains(&states)
+}
+
 // The document of a text, whatever its length, its table not yet checked.
 fn whole(alloc: Global, text: &[u8]) -> Result<Document, ReadError>
     ensures { DocumentTold text.now result }
 {
     let mut reader = Reader::new(text);
     let head = reader.first_line()?;
-    if head.states < LEAST_STATES || head.states > MOST_STATES {
-        return Err(ReadError::AtFault(Fault {
-            layer: Layer::Table,
-            cause: Refusal::WrongShape,
-            place: 0,
-        }));
+    if !allowed(head.states) {
+        return Err(Fault::new(Layer::Table, Refusal::WrongShape, 0).into());
     }
     reader.body(alloc, head)
 }
@@ -106,11 +103,7 @@ pub fn read(alloc: Global, text: &[u8]) -> Result<Document, ReadError>
     ensures laws { VerdictLaws }
 {
     if text.len() > MOST_BYTES {
-        return Err(ReadError::AtFault(Fault {
-            layer: Layer::Forms,
-            cause: Refusal::TextTooLong,
-            place: MOST_BYTES,
-        }));
+        return Err(Fault::new(Layer::Forms, Refusal::TextTooLong, MOST_BYTES).into());
     }
     let document = whole(alloc, text)?;
     document.check()?;

@@ -86,10 +86,9 @@ impl<'a> Reader<'a> {
     {
         while !self.closes() {
             if cuts.targets.len() >= MOST_CUTS {
-                return Err(ReadError::AtFault(self.cut_too_many()));
+                return Err(self.cut_too_many().into());
             }
-            let cut = self.cut()?;
-            cuts.push(cut)?;
+            cuts.push(self.cut()?)?;
         }
         self.line_end()?;
         Ok(())
@@ -128,9 +127,8 @@ impl<'a> Reader<'a> {
     {
         self.opening(b"estimates")?;
         let mut estimates = Vec::new(alloc);
-        for i in 0..states {
-            let estimate = self.spaced_number()?;
-            estimates.push(estimate)?;
+        for _i in 0..states {
+            estimates.push(self.spaced_number()?)?;
         }
         self.line_end()?;
         Ok(estimates)

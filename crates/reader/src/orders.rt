@@ -87,8 +87,7 @@ impl<'a> Reader<'a> {
     {
         let mut orders = Vec::new(alloc);
         while self.at < self.text.len() {
-            let order = self.order_line()?;
-            orders.push(order)?;
+            orders.push(self.order_line()?)?;
         }
         Ok(orders)
     }

@@ -1,4 +1,4 @@
-use Rattle.std.proofs.Common.{◌≡◌, refl}
+use Rattle.std.proofs.Common.{◌≡◌, Err, ap}
 use Rattle.text.specs.Reading.{document}
 use Rattle.text.proofs.Laws.{verdict_laws}
 use Rattle.reader.specs.Readings.{told}
@@ -9,7 +9,14 @@ use Rattle.reader.proofs.Judged.{too_long, at_fault, bad_table, good_table}
 use Rattle.reader.proofs.document.read.Goals as goal
 
 pub returns-then-text-gt-MOST_BYTES : goal.returns-then-text-gt-MOST_BYTES
-returns-then-text-gt-MOST_BYTES c = record { verdict = too_long c.args.text.now _ c.if-text-gt-MOST_BYTES.true refl; laws = verdict_laws }
+returns-then-text-gt-MOST_BYTES c =
+    let text = c.args.text.now in
+    record {
+      verdict =
+          passes_out (Accepted text) (Refused text) c.new.result (Err c.into.result) c.into.ensures
+          (too_long text c.new.result c.if-text-gt-MOST_BYTES.true (ap told c.new.ensures));
+      laws = verdict_laws;
+    }
 
 pub returns-in_err-document : goal.returns-in_err-document
 returns-in_err-document c =

@@ -14,11 +14,11 @@ loop-cuts-smaller c =
     let rows = c.loop-cuts.cuts.targets in
     let more = c.push.new.self.targets in
     let long = ap length c.in_ok-push.ensures.0 in
-    omega (arith, rows.ok.0, more.ok.0, long, length-append (vec_items rows) (c.in_ok-cut.cut.target ∷ []), c.len.ensures, c.if-len-ge-MOST_CUTS.false)
+    omega (arith, rows.ok.0, more.ok.0, long, length-append (vec_items rows) (c.in_ok-cut.field-0.target ∷ []), c.len.ensures, c.if-len-ge-MOST_CUTS.false)
 
 pub loop-cuts-preserved : goal.loop-cuts-preserved
 loop-cuts-preserved c =
-    sofar_more c.in_ok-cut.cut.target c.in_ok-cut.cut.cost c.loop-cuts.invariant (sym c.closes.ensures ∙ c.loop-cuts-test.true)
+    sofar_more c.in_ok-cut.field-0.target c.in_ok-cut.field-0.cost c.loop-cuts.invariant (sym c.closes.ensures ∙ c.loop-cuts-test.true)
     (omega (arith, c.loop-cuts.cuts.targets.ok.0)) c.in_ok-cut.ensures c.in_ok-push.ensures.0 c.in_ok-push.ensures.1
 
 pub returns-in_err-line_end : goal.returns-in_err-line_end

@@ -18,27 +18,27 @@ loop-i-init c =
     (subst (λ k. Left (spaced_numbers n) (spaced_numbers k) [] c.opening.new.self c.opening.new.self) all
     (left_all (spaced_numbers n) c.opening.new.self))
 
-pub returns-in_err-estimate : goal.returns-in_err-estimate
-returns-in_err-estimate c =
-    passes_out _ _ c.in_err-estimate.field-0.0 c.from_residual-in_err-estimate.result c.from_residual-in_err-estimate.ensures.1
-    (stopped_then c.in_ok-opening.ensures (number_fault c.loop-i.invariant c.loop-i-test.true c.in_err-estimate.ensures)).tells
+pub returns-in_err-spaced_number : goal.returns-in_err-spaced_number
+returns-in_err-spaced_number c =
+    passes_out _ _ c.in_err-spaced_number.field-0.0 c.from_residual-in_err-spaced_number.result c.from_residual-in_err-spaced_number.ensures.1
+    (stopped_then c.in_ok-opening.ensures (number_fault c.loop-i.invariant c.loop-i-test.true c.in_err-spaced_number.ensures)).tells
 
 pub loop-i-preserved : goal.loop-i-preserved
 loop-i-preserved c =
     let n = c.args.states in
-    let pushed = chosen _ _ _ _ c.push.ensures.items (ap is_ok c.in_ok-push.was) in
-    subst (λ xs. Left (spaced_numbers n) (spaced_numbers (n - (c.loop-i.i + 1))) xs c.opening.new.self c.spaced_number.new.self) (sym pushed)
-    (left_number c.in_ok-estimate.estimate c.loop-i.invariant c.loop-i-test.true c.in_ok-estimate.ensures)
+    let pushed = chosen {X = List ℕ} _ _ _ _ c.push.ensures.items (ap is_ok c.in_ok-push.was) in
+    subst (λ xs. Left (spaced_numbers n) (spaced_numbers (n - (c.loop-i._i + 1))) xs c.opening.new.self c.spaced_number.new.self) (sym pushed)
+    (left_number c.in_ok-spaced_number.field-0 c.loop-i.invariant c.loop-i-test.true c.in_ok-spaced_number.ensures)
 
 pub returns-in_err-line_end : goal.returns-in_err-line_end
 returns-in_err-line_end c =
-    let none : c.args.states - c.loop-i.i ≡ 0 = omega arith in
+    let none : c.args.states - c.loop-i._i ≡ 0 = omega arith in
     let left = subst (λ k. Left (spaced_numbers c.args.states) (spaced_numbers k) (vec_items c.loop-i.estimates) c.opening.new.self c.loop-i.self) none c.loop-i.invariant in
     passes_out _ _ c.in_err-line_end.field-0.0 c.from_residual-in_err-line_end.result c.from_residual-in_err-line_end.ensures.1
     (stopped_then c.in_ok-opening.ensures (left_fault left c.in_err-line_end.ensures)).tells
 
 pub returns : goal.returns
 returns c =
-    let none : c.args.states - c.loop-i.i ≡ 0 = omega arith in
+    let none : c.args.states - c.loop-i._i ≡ 0 = omega arith in
     let left = subst (λ k. Left (spaced_numbers c.args.states) (spaced_numbers k) (vec_items c.loop-i.estimates) c.opening.new.self c.loop-i.self) none c.loop-i.invariant in
     went_then c.in_ok-opening.ensures (left_end left c.in_ok-line_end.ensures)

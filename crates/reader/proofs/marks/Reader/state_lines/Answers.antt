@@ -27,5 +27,5 @@ returns-in_err-state_line c =
 
 pub returns : goal.returns
 returns c =
-    let pushed = chosen _ _ _ _ c.push.ensures.items (ap is_ok c.in_ok-push.was) in
+    let pushed = chosen {X = List ℕ} _ _ _ _ c.push.ensures.items (ap is_ok c.in_ok-push.was) in
     lines_end _ c.loop-u.invariant (omega arith) (pushed ∙ ap (λ n. vec_items c.loop-u.firsts ++ n ∷ []) c.count.ensures) refl refl

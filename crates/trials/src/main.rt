@@ -2,8 +2,10 @@
 // holds. A text stands there as its length, a line feed, its bytes and a line feed. A test of reader; it stands on reader, text and course.
 #![tactic(auto)]
 
-use anyhow::anyhow;
-use reader::{Document, ReadError, read};
+ghost use Rattle.std.specs.Prelude.{◌<◌, ◌≤◌, length, IfSome};
+
+use anyhow::{Context, anyhow};
+use reader::{ReadError, read};
 use std::io::Read;
 
 // The verdict on one text, in one line.
@@ -15,35 +17,33 @@ fn judge(rt: &HostRuntime, text: &[u8]) -> anyhow::Result<()> {
             let orders = document.orders.len();
             println!(rt; "ok {states} {cuts} {orders}")?;
         }
-        Err(ReadError::AtFault(fault)) => {
-            let layer = fault.layer.number();
-            let cause = fault.cause.number();
-            let place = fault.place;
-            println!(rt; "fault {layer} {cause} {place}")?;
-        }
-        Err(ReadError::NoMemory) => return Err(anyhow!("no memory")),
+        Err(ReadError::AtFault(fault)) => println!(rt; "{fault}")?,
+        Err(ReadError::NoMemory(_)) => return Err(anyhow!("no memory")),
     }
     Ok(())
 }
 
-// The number in front of some bytes, and how many bytes it takes; a line feed is to follow.
-fn length_at(bytes: &[u8]) -> (usize, usize) {
-    let mut n: usize = 0;
-    for (i, b) in bytes.iter().enumerate() {
-        if *b < b'0' || *b > b'9' {
-            return (n, i);
-        }
-        n = n.saturating_mul(10).saturating_add((*b - b'0') as usize);
-    }
-    (n, bytes.len())
+// The number in front of some bytes, and what follows it.
+fn length_at(bytes: &[u8]) -> (usize, &[u8])
+    ensures { length result.1.now ≤ length bytes.now }
+{
+    let count = bytes.iter().take_while(|b| b.is_ascii_digit()).count();
+    let (digits, rest) = bytes.split_at(count);
+    let number = digits.iter().fold(0_usize, |n, b| {
+        n.saturating_mul(10)
+            .saturating_add(usize::from(b.wrapping_sub(b'0')))
+    });
+    (number, rest)
 }
 
-// The text in front of some bytes, and what follows it.
-fn frame(bytes: &[u8]) -> Option<(&[u8], &[u8])> {
-    let (length, digits) = length_at(bytes);
-    let (_, body) = bytes.split_at_checked(digits.checked_add(1)?)?;
+// The text in front of some bytes, and what follows it, which is shorter than the whole.
+fn frame(bytes: &[u8]) -> Option<(&[u8], &[u8])>
+    ensures { IfSome result (λ p. length p.1.now < length bytes.now) }
+{
+    let (length, rest) = length_at(bytes);
+    let (_, body) = rest.split_first()?;
     let (text, rest) = body.split_at_checked(length)?;
-    let (_, rest) = rest.split_at_checked(1)?;
+    let (_, rest) = rest.split_first()?;
     Some((text, rest))
 }
 
@@ -51,13 +51,8 @@ fn run(rt: &HostRuntime) -> anyhow::Result<()> {
     let mut all = Vec::new(rt.alloc());
     rt.stdin().read_to_end(&mut all)?;
     let mut rest = all.as_slice();
-    for _ in 0..all.len() {
-        if rest.is_empty() {
-            break;
-        }
-        let Some((text, after)) = frame(rest) else {
-            return Err(anyhow!("a frame is cut short"));
-        };
+    while !rest.is_empty() {
+        let (text, after) = frame(rest).context("a frame is cut short")?;
         judge(rt, text)?;
         rest = after;
     }

@@ -1,4 +1,4 @@
-use Rattle.std.proofs.Common.{◌≡◌, ◌+◌, ◌-◌, [], is_ok, vec_items, sym, ap, subst, arith}
+use Rattle.std.proofs.Common.{ℕ, List, ◌≡◌, ◌+◌, ◌-◌, [], is_ok, vec_items, sym, ap, subst, arith}
 use Rattle.std.proofs.ResultArms.{chosen}
 use Rattle.text.specs.Document.{spaced_numbers}
 use Rattle.reader.proofs.Steps.{went_then, stopped_first, stopped_then, passes_out}

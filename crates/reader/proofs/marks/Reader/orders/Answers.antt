@@ -1,4 +1,5 @@
-use Rattle.std.proofs.Common.{is_ok, sym, ap, subst}
+use Rattle.text.specs.declared.Order.{Order}
+use Rattle.std.proofs.Common.{List, is_ok, sym, ap, subst}
 use Rattle.std.proofs.ResultArms.{chosen}
 use Rattle.reader.proofs.Steps.{passes_out}
 use Rattle.reader.proofs.OrderLines.{SofarOrders, orders_start, orders_more, orders_fault, orders_end, line_takes}
@@ -18,7 +19,7 @@ loop-self-smaller c = line_takes c.in_ok-order_line.ensures
 
 pub loop-self-preserved : goal.loop-self-preserved
 loop-self-preserved c =
-    let pushed = chosen {X = List ℕ} _ _ _ _ c.push.ensures.items (ap is_ok c.in_ok-push.was) in
+    let pushed = chosen {X = List Order} _ _ _ _ c.push.ensures.items (ap is_ok c.in_ok-push.was) in
     subst (SofarOrders c.args.self.now c.order_line.new.self) (sym pushed)
     (orders_more c.in_ok-order_line.field-0 c.loop-self.invariant c.loop-self-test.true c.in_ok-order_line.ensures)
 

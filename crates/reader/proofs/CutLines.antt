@@ -8,7 +8,7 @@ use Rattle.text.specs.Document.{Cut, opening, closing, space, a_cut, line_end}
 use Rattle.text.specs.Reading.{cut_of, cuts_from}
 use Rattle.text.proofs.Forms.{goes}
 use Rattle.reader.specs.declared.marks.Reader.{Reader}
-use Rattle.reader.specs.declared.lines.CutRows.{CutRows}
+use Rattle.reader.specs.declared.rows.CutRows.{CutRows}
 use Rattle.reader.specs.Readings.{Went, Stopped, rest, told}
 use Rattle.reader.specs.Rows.{Filled, room, CutsRead}
 

@@ -1,18 +1,16 @@
 -- The lines of the states, read one after another.
-use Rattle.std.proofs.Common.{◌≡◌, ℕ, suc, ◌+◌, ◌-◌, ◌<◌, ◌≤◌, List, [], ◌∷◌, ◌++◌, map, length, vec_items, Vec, sym, refl, ap, ◌∙◌, add-zero, zero-add, add-one, arith}
-use Rattle.std.specs.declared.alloc.Global.{Global}
+use Rattle.std.proofs.Common.{◌≡◌, ℕ, suc, ◌+◌, ◌-◌, ◌<◌, ◌≤◌, List, [], ◌∷◌, ◌++◌, map, length, vec_items, sym, refl, ap, ◌∙◌, add-zero, zero-add, add-one, arith}
 use Rattle.std.proofs.lemmas.List.{append-nil, length-append, length-map, flat_map_more}
 use Rattle.text.specs.declared.Fault.{Fault}
 use Rattle.text.specs.Forms.{Got, got, fault, and_then, follow}
 use Rattle.text.specs.Document.{Cut, total, from}
 use Rattle.text.specs.Reading.{cuts_from, lines_from}
 use Rattle.text.specs.Rows.{firsts_after, targets_of, costs_of}
-use Rattle.text.proofs.Forms.{went, goes}
-use Rattle.text.proofs.Cuts.{cuts_sound}
+use Rattle.text.proofs.Forms.{goes}
 use Rattle.text.proofs.Shapes.{row_many}
 use Rattle.reader.specs.declared.marks.Reader.{Reader}
-use Rattle.reader.specs.declared.lines.CutRows.{CutRows}
-use Rattle.reader.specs.declared.lines.Lines.{Lines}
+use Rattle.reader.specs.declared.rows.CutRows.{CutRows}
+use Rattle.reader.specs.declared.rows.Lines.{Lines}
 use Rattle.reader.specs.Readings.{rest, told}
 use Rattle.reader.specs.Rows.{room, line_from, LineRead, LinesRead}
 use Rattle.reader.proofs.CutLines.{onto, onto_none, onto_more}
@@ -52,21 +50,20 @@ lines_step k u n p bs = go (follow (from u) p bs)
     go (fault l c q) = refl
 
 -- The states before u are read.
-pub record SofarLines (n u : ℕ) (start mid : Reader) (firsts : Vec ℕ Global) (rows : CutRows) : Type 0 where
+pub record SofarLines (n u : ℕ) (start mid : Reader) (lines : Lines) : Type 0 where
   pub done : List (List Cut)
   pub same : mid.text.now ≡ start.text.now
-  pub left : lines_from n 0 8192 start.at (rest start) ≡ and_then (lines_from (n - u) u (room rows) mid.at (rest mid)) (onto done)
-  pub firsts_are : vec_items firsts ≡ begins 0 done
-  pub targets_are : vec_items rows.targets ≡ targets_of done
-  pub costs_are : vec_items rows.costs ≡ costs_of done
-  pub few : length (vec_items rows.targets) ≤ 8192
+  pub left : lines_from n 0 8192 start.at (rest start) ≡ and_then (lines_from (n - u) u (room lines.cuts) mid.at (rest mid)) (onto done)
+  pub firsts_are : vec_items lines.firsts ≡ begins 0 done
+  pub targets_are : vec_items lines.cuts.targets ≡ targets_of done
+  pub costs_are : vec_items lines.cuts.costs ≡ costs_of done
 
 pub lines_start :
-    (n : ℕ) (start : Reader) (firsts : Vec ℕ Global) (rows : CutRows)
-    → vec_items firsts ≡ [] → (vec_items rows.targets ≡ []) × (vec_items rows.costs ≡ []) → SofarLines n 0 start start firsts rows
-lines_start n start firsts rows f r =
+    (n : ℕ) (start : Reader) (lines : Lines)
+    → (vec_items lines.firsts ≡ []) × (vec_items lines.cuts.targets ≡ []) × (vec_items lines.cuts.costs ≡ []) → SofarLines n 0 start start lines
+lines_start n start lines r =
     let whole : n ≡ n - 0 = omega arith in
-    let all : 8192 ≡ room rows = omega (arith, ap length r.0) in
+    let all : 8192 ≡ room lines.cuts = omega (arith, ap length r.1) in
     record {
       done = [];
       same = refl;
@@ -74,79 +71,75 @@ lines_start n start firsts rows f r =
           onto_none (lines_from n 0 8192 start.at (rest start))
           ∙ ap (λ k. and_then (lines_from k 0 8192 start.at (rest start)) (onto [])) whole
           ∙ ap (λ k. and_then (lines_from (n - 0) 0 k start.at (rest start)) (onto [])) all;
-      firsts_are = f;
-      targets_are = r.0;
-      costs_are = r.1;
-      few = omega (arith, ap length r.0);
+      firsts_are = r.0;
+      targets_are = r.1;
+      costs_are = r.2;
     }
 
 pub lines_more :
-    {n u : ℕ} {start mid to : Reader} {firsts more : Vec ℕ Global} {before after : CutRows}
-    → SofarLines n u start mid firsts before → u < n → LineRead u mid to firsts more before after → SofarLines n (u + 1) start to more after
-lines_more {n} {u} {start} {mid} {to} {firsts} {more} {before} {after} s h r =
+    {n u : ℕ} {start mid to : Reader} {before after : Lines}
+    → SofarLines n u start mid before → u < n → LineRead u mid to before after → SofarLines n (u + 1) start to after
+lines_more {n} {u} {start} {mid} {to} {before} {after} s h r =
     let k : ℕ = n - (u + 1) in
     let cs = r.cuts in
     let one_less : n - u ≡ suc k = omega arith in
-    let w = went (follow (from u) mid.at (rest mid)) (λ ns q left. cuts_from (room before) q left) cs to.at (rest to) r.reads in
-    let c = cuts_sound (room before) w.place w.left cs to.at (rest to) w.second in
-    let long : length (vec_items after.targets) ≡ length (vec_items before.targets) + length cs =
+    let long : length (vec_items after.cuts.targets) ≡ length (vec_items before.cuts.targets) + length cs =
     ap length r.fills.targets
-    ∙ length-append (vec_items before.targets) (map (λ (c : Cut). c.target) cs)
-    ∙ ap (λ z. length (vec_items before.targets) + z) (length-map cs (λ (c : Cut). c.target))
+    ∙ length-append (vec_items before.cuts.targets) (map (λ (c : Cut). c.target) cs)
+    ∙ ap (λ z. length (vec_items before.cuts.targets) + z) (length-map cs (λ (c : Cut). c.target))
     in
-    let room-left : room before - length cs ≡ room after = omega (arith, long) in
+    let room-left : room before.cuts - length cs ≡ room after.cuts = omega (arith, long) in
     let onward = λ (css : List (List Cut)) (q : ℕ) (bs : List ℕ). got (cs ∷ css) q bs in
-    let step : lines_from (n - u) u (room before) mid.at (rest mid) ≡ and_then (lines_from k (u + 1) (room after) to.at (rest to)) onward =
-    ap (λ z. lines_from z u (room before) mid.at (rest mid)) one_less ∙ lines_step k u (room before) mid.at (rest mid)
-    ∙ goes (line_from u (room before) mid.at (rest mid))
-    (λ cs q left. and_then (lines_from k (suc u) (room before - length cs) q left) (λ css q left. got (cs ∷ css) q left))
+    let step : lines_from (n - u) u (room before.cuts) mid.at (rest mid) ≡ and_then (lines_from k (u + 1) (room after.cuts) to.at (rest to)) onward =
+    ap (λ z. lines_from z u (room before.cuts) mid.at (rest mid)) one_less ∙ lines_step k u (room before.cuts) mid.at (rest mid)
+    ∙ goes (line_from u (room before.cuts) mid.at (rest mid))
+    (λ cs q left. and_then (lines_from k (suc u) (room before.cuts - length cs) q left) (λ css q left. got (cs ∷ css) q left))
     cs
     to.at
     (rest to)
-    (and_then (lines_from k (u + 1) (room after) to.at (rest to)) onward)
+    (and_then (lines_from k (u + 1) (room after.cuts) to.at (rest to)) onward)
     r.reads
     (ap (λ z. and_then (lines_from k (suc u) z to.at (rest to)) onward) room-left
-    ∙ ap (λ z. and_then (lines_from k z (room after) to.at (rest to)) onward) (sym (add-one u)))
+    ∙ ap (λ z. and_then (lines_from k z (room after.cuts) to.at (rest to)) onward) (sym (add-one u)))
     in
     record {
       done = s.done ++ cs ∷ [];
       same = r.same ∙ s.same;
-      left = s.left ∙ ap (λ g. and_then g (onto s.done)) step ∙ onto_more s.done cs (lines_from k (u + 1) (room after) to.at (rest to));
+      left = s.left ∙ ap (λ g. and_then g (onto s.done)) step ∙ onto_more s.done cs (lines_from k (u + 1) (room after.cuts) to.at (rest to));
       firsts_are =
-          r.begins ∙ ap (λ z. z ++ length (vec_items before.targets) ∷ []) s.firsts_are
-          ∙ ap (λ z. begins 0 s.done ++ z ∷ []) (entries (vec_items before.targets) s.done s.targets_are)
+          r.begins ∙ ap (λ z. z ++ length (vec_items before.cuts.targets) ∷ []) s.firsts_are
+          ∙ ap (λ z. begins 0 s.done ++ z ∷ []) (entries (vec_items before.cuts.targets) s.done s.targets_are)
           ∙ sym (begins_more 0 s.done cs);
       targets_are = r.fills.targets ∙ ap (λ z. z ++ map (λ (c : Cut). c.target) cs) s.targets_are ∙ flat_map_more (map (λ (c : Cut). c.target)) [] s.done cs;
       costs_are = r.fills.costs ∙ ap (λ z. z ++ map (λ (c : Cut). c.cost) cs) s.costs_are ∙ flat_map_more (map (λ (c : Cut). c.cost)) [] s.done cs;
-      few = omega (arith, long, c.few, s.few);
     }
 
 pub lines_fault :
-    {n u : ℕ} {start mid : Reader} {firsts : Vec ℕ Global} {rows : CutRows} (e : Fault)
-    → SofarLines n u start mid firsts rows → u < n → line_from u (room rows) mid.at (rest mid) ≡ told e → lines_from n 0 8192 start.at (rest start) ≡ told e
-lines_fault {n} {u} {start} {mid} {firsts} {rows} e s h f =
+    {n u : ℕ} {start mid : Reader} {lines : Lines} (e : Fault)
+    → SofarLines n u start mid lines → u < n → line_from u (room lines.cuts) mid.at (rest mid) ≡ told e → lines_from n 0 8192 start.at (rest start) ≡ told e
+lines_fault {n} {u} {start} {mid} {lines} e s h f =
     let k : ℕ = n - (u + 1) in
     let one_less : n - u ≡ suc k = omega arith in
     s.left
     ∙ ap (λ g. and_then g (onto s.done))
-    (ap (λ z. lines_from z u (room rows) mid.at (rest mid)) one_less ∙ lines_step k u (room rows) mid.at (rest mid)
-    ∙ ap (λ g. and_then g (λ cs q left. and_then (lines_from k (suc u) (room rows - length cs) q left) (λ css q left. got (cs ∷ css) q left))) f)
+    (ap (λ z. lines_from z u (room lines.cuts) mid.at (rest mid)) one_less ∙ lines_step k u (room lines.cuts) mid.at (rest mid)
+    ∙ ap (λ g. and_then g (λ cs q left. and_then (lines_from k (suc u) (room lines.cuts - length cs) q left) (λ css q left. got (cs ∷ css) q left))) f)
 
 pub lines_end :
-    {n u : ℕ} {start to : Reader} {firsts more : Vec ℕ Global} {rows : CutRows} (lines : Lines)
-    → SofarLines n u start to firsts rows → n ≤ u → vec_items more ≡ vec_items firsts ++ length (vec_items rows.targets) ∷ []
-    → lines.firsts ≡ more → lines.cuts ≡ rows → LinesRead n start to lines
-lines_end {n} {u} {start} {to} {firsts} {more} {rows} lines s h m f r =
+    {n u : ℕ} {start to : Reader} {before lines : Lines}
+    → SofarLines n u start to before → n ≤ u → vec_items lines.firsts ≡ vec_items before.firsts ++ length (vec_items before.cuts.targets) ∷ []
+    → lines.cuts ≡ before.cuts → LinesRead n start to lines
+lines_end {n} {u} {start} {to} {before} {lines} s h m r =
     let none : n - u ≡ 0 = omega arith in
     record {
       cuts = s.done;
       same = s.same;
       reads =
-          s.left ∙ ap (λ z. and_then (lines_from z u (room rows) to.at (rest to)) (onto s.done)) none
+          s.left ∙ ap (λ z. and_then (lines_from z u (room before.cuts) to.at (rest to)) (onto s.done)) none
           ∙ ap (λ z. got z to.at (rest to)) (append-nil s.done);
       firsts =
-          ap vec_items f ∙ m ∙ ap (λ z. z ++ length (vec_items rows.targets) ∷ []) s.firsts_are
-          ∙ ap (λ z. begins 0 s.done ++ z ∷ []) (entries (vec_items rows.targets) s.done s.targets_are)
+          m ∙ ap (λ z. z ++ length (vec_items before.cuts.targets) ∷ []) s.firsts_are
+          ∙ ap (λ z. begins 0 s.done ++ z ∷ []) (entries (vec_items before.cuts.targets) s.done s.targets_are)
           ∙ sym (firsts_begin 0 s.done);
       targets = ap (λ (x : CutRows). vec_items x.targets) r ∙ s.targets_are;
       costs = ap (λ (x : CutRows). vec_items x.costs) r ∙ s.costs_are;

@@ -41,10 +41,10 @@ reads_then g mean to (Err e) h k = stopped_then h k
 
 -- A fault passes upward as it is.
 pub passes_up :
-    {A : Type 0} (f : Form) (mean : A → List ℕ) (from to : Reader) (e : Fault) (r : Result A Fault)
-    → IsErrAnd r (λ y. y ≡ e) → Stopped f from to e → Reads f mean from to r
-passes_up f mean from to e (Ok a) h k = absurd h
-passes_up f mean from to e (Err d) h k = rw h k
+    {A : Type 0} {f : Form} {from to : Reader} {e : Fault} (mean : A → List ℕ) (r : Result A Fault)
+    → Stopped f from to e → IsErrAnd r (λ y. y ≡ e) → Reads f mean from to r
+passes_up mean (Ok a) h k = absurd k
+passes_up mean (Err d) h k = rw k h
 
 pub passes_out :
     {A : Type 0} (P : A → Type 0) (Q : Fault → Type 0) (e : Fault) (r : Result A ReadError) → IsErrAnd r (λ y. y ≡ AtFault e) → Q e → Outcome P Q r

@@ -14,7 +14,7 @@ use Rattle.reader.specs.declared.errors.ReadError.{ReadError}
 use Rattle.reader.specs.declared.errors.ReadError.TheVariants.{AtFault, NoMemory}
 use Rattle.reader.specs.declared.marks.Reader.{Reader}
 use Rattle.reader.specs.declared.forms.Head.{Head}
-use Rattle.reader.specs.declared.lines.Lines.{Lines}
+use Rattle.reader.specs.declared.rows.Lines.{Lines}
 use Rattle.reader.specs.declared.document.Document.{Document}
 use Rattle.reader.specs.Readings.{Went, Stopped, headed, rest, told}
 use Rattle.reader.specs.Rows.{Outcome, LinesRead}

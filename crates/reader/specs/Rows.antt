@@ -10,8 +10,8 @@ use Rattle.reader.specs.declared.errors.ReadError.{ReadError}
 use Rattle.reader.specs.declared.errors.ReadError.TheVariants.{AtFault, NoMemory}
 use Rattle.reader.specs.declared.forms.Cut as code
 use Rattle.reader.specs.declared.marks.Reader.{Reader}
-use Rattle.reader.specs.declared.lines.CutRows.{CutRows}
-use Rattle.reader.specs.declared.lines.Lines.{Lines}
+use Rattle.reader.specs.declared.rows.CutRows.{CutRows}
+use Rattle.reader.specs.declared.rows.Lines.{Lines}
 use Rattle.std.specs.declared.alloc.Global.{Global}
 
 -- What is promised of an answer, and of a fault; nothing is promised where memory failed.
@@ -25,6 +25,14 @@ abbrev pub Pushed : code.Cut → CutRows → CutRows → Result (Unit {0}) ReadE
 Pushed c before after r =
     Outcome
     (λ _. (vec_items after.targets ≡ vec_items before.targets ++ c.target ∷ []) × (vec_items after.costs ≡ vec_items before.costs ++ c.cost ∷ []))
+    (λ _. ⊥)
+    r
+
+-- The entries of one state more begin behind those that are there.
+abbrev pub Begins : Lines → Lines → Result (Unit {0}) ReadError → Type 0
+Begins before after r =
+    Outcome
+    (λ _. (vec_items after.firsts ≡ vec_items before.firsts ++ length (vec_items before.cuts.targets) ∷ []) × (after.cuts ≡ before.cuts))
     (λ _. ⊥)
     r
 
@@ -51,16 +59,16 @@ CutsTold from to before after r = Outcome (λ _. CutsRead from to before after) 
 abbrev pub line_from : ℕ → ℕ → ℕ → List ℕ → Got (List Cut)
 line_from u k p bs = and_then (follow (from u) p bs) (λ ns q left. cuts_from k q left)
 
-pub record LineRead (u : ℕ) (start to : Reader) (firsts more : Vec ℕ Global) (before after : CutRows) : Type 0 where
+pub record LineRead (u : ℕ) (start to : Reader) (before after : Lines) : Type 0 where
   pub cuts : List Cut
   pub same : to.text.now ≡ start.text.now
-  pub reads : line_from u (room before) start.at (rest start) ≡ got cuts to.at (rest to)
-  pub begins : vec_items more ≡ vec_items firsts ++ length (vec_items before.targets) ∷ []
-  pub fills : Filled cuts before after
+  pub reads : line_from u (room before.cuts) start.at (rest start) ≡ got cuts to.at (rest to)
+  pub begins : vec_items after.firsts ≡ vec_items before.firsts ++ length (vec_items before.cuts.targets) ∷ []
+  pub fills : Filled cuts before.cuts after.cuts
 
-abbrev pub LineTold : ℕ → Reader → Reader → Vec ℕ Global → Vec ℕ Global → CutRows → CutRows → Result (Unit {0}) ReadError → Type 0
-LineTold u start to firsts more before after r =
-    Outcome (λ _. LineRead u start to firsts more before after) (λ f. line_from u (room before) start.at (rest start) ≡ told f) r
+abbrev pub LineTold : ℕ → Reader → Reader → Lines → Lines → Result (Unit {0}) ReadError → Type 0
+LineTold u start to before after r =
+    Outcome (λ _. LineRead u start to before after) (λ f. line_from u (room before.cuts) start.at (rest start) ≡ told f) r
 
 -- The lines of n states were read, and their cuts stand in rows.
 pub record LinesRead (n : ℕ) (start to : Reader) (lines : Lines) : Type 0 where

@@ -27,5 +27,5 @@ const KINDS: [Kind; 256] = [
 pub(crate) fn kind_of(b: u8) -> Kind
     ensures { result ≡ kind b }
 {
-    KINDS[b as usize]
+    KINDS[usize::from(b)]
 }

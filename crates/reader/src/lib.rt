@@ -8,6 +8,7 @@ mod kinds;
 mod lines;
 mod marks;
 mod orders;
+mod rows;
 
 pub use document::{Document, read};
 pub use errors::ReadError;

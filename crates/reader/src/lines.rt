@@ -1,35 +1,22 @@
 // The lines of the states, and the line of the estimates.
-ghost use Rattle.std.specs.Prelude.{◌≡◌, ◌≤◌, true, false, [], ◌∷◌, ◌++◌, length, MatchResult};
+ghost use Rattle.std.specs.Prelude.{◌≡◌, ◌<◌, ◌≤◌, true, false, [], ◌∷◌, ◌++◌, length, MatchResult};
 ghost use Rattle.text.specs.Marks.{next};
 ghost use Rattle.text.specs.Forms.{meets};
 ghost use Rattle.text.specs.Document.{closing};
 ghost use Rattle.text.specs.Reading.{cuts_from};
 ghost use Rattle.reader.specs.Readings.{rest, told};
-ghost use Rattle.reader.specs.Rows.{Pushed, CutsTold, LineTold, LinesTold, EstimatesTold};
+ghost use Rattle.reader.specs.Rows.{Pushed, Begins, CutsTold, LineTold, LinesTold, EstimatesTold};
 
 use crate::errors::ReadError;
 use crate::forms::{Cut, Want};
 use crate::marks::{Reader, Sign};
+use crate::rows::{CutRows, Lines};
 use course::Refusal;
 use std::alloc::Global;
 use text::{Fault, Layer};
 
 // As many cuts as a text may hold.
 const MOST_CUTS: usize = 8192;
-
-// The cuts of all states one after another: where each leads, and what it costs.
-#[derive(Drop)]
-pub(crate) struct CutRows {
-    pub(crate) targets: Vec<u32>,
-    pub(crate) costs: Vec<u32>,
-}
-
-// The rows of the states' lines. The entries of a state begin at its first, and end where those of the next begin.
-#[derive(Drop)]
-pub(crate) struct Lines {
-    pub(crate) firsts: Vec<u32>,
-    pub(crate) cuts: CutRows,
-}
 
 impl CutRows {
     fn new(alloc: Global) -> Self
@@ -43,17 +30,36 @@ impl CutRows {
 
     // How many there are.
     fn count(&self) -> u32
-        requires { length self.now.targets.items ≤ 8192 }
         ensures { result ≡ length self.now.targets.items }
     {
         self.targets.len() as u32
     }
 
     fn push(&mut self, cut: Cut) -> Result<(), ReadError>
+        requires { length self.old.targets.items < 8192 }
         ensures { Pushed cut self.old self.new result }
     {
         self.targets.push(cut.target)?;
         self.costs.push(cut.cost)?;
+        Ok(())
+    }
+}
+
+impl Lines {
+    fn new(alloc: Global) -> Self
+        ensures { (result.firsts.items ≡ []) × (result.cuts.targets.items ≡ []) × (result.cuts.costs.items ≡ []) }
+    {
+        Lines {
+            firsts: Vec::new(alloc),
+            cuts: CutRows::new(alloc),
+        }
+    }
+
+    // The entries of the next state begin behind those that are there.
+    fn begin(&mut self) -> Result<(), ReadError>
+        ensures { Begins self.old self.new result }
+    {
+        self.firsts.push(self.cuts.count())?;
         Ok(())
     }
 }
@@ -94,31 +100,24 @@ impl<'a> Reader<'a> {
         Ok(())
     }
     // `(from u`, the cuts of the state, and the end of its line; with where its entries begin.
-    fn state_line(
-        &mut self,
-        u: u32,
-        firsts: &mut Vec<u32>,
-        cuts: &mut CutRows,
-    ) -> Result<(), ReadError>
-        requires { length cuts.old.targets.items ≤ 8192 }
-        ensures { LineTold u self.old self.new firsts.old firsts.new cuts.old cuts.new result }
+    fn state_line(&mut self, u: u32, lines: &mut Lines) -> Result<(), ReadError>
+        ensures { LineTold u self.old self.new lines.old lines.new result }
     {
-        firsts.push(cuts.count())?;
+        lines.begin()?;
         self.from_state(u)?;
-        self.cut_line(cuts)
+        self.cut_line(&mut lines.cuts)
     }
 
     // A line for each state, from state 0 on.
     pub(crate) fn state_lines(&mut self, alloc: Global, states: u32) -> Result<Lines, ReadError>
         ensures { LinesTold states self.old self.new result }
     {
-        let mut firsts = Vec::new(alloc);
-        let mut cuts = CutRows::new(alloc);
+        let mut lines = Lines::new(alloc);
         for u in 0..states {
-            self.state_line(u, &mut firsts, &mut cuts)?;
+            self.state_line(u, &mut lines)?;
         }
-        firsts.push(cuts.count())?;
-        Ok(Lines { firsts, cuts })
+        lines.begin()?;
+        Ok(lines)
     }
 
     // `(estimates`, a number for each state, and the end of the line.

@@ -66,9 +66,7 @@ impl<'a> Reader<'a> {
         ensures { OrderTold self.old self.new result }
     {
         let mark = self.peek()?;
-        let Some(verb) = verb_of(mark.token) else {
-            return Err(unwanted(mark));
-        };
+        let verb = verb_of(mark.token).ok_or(unwanted(mark))?;
         self.at = mark.end;
         self.order_numbers(verb)
     }

@@ -5,10 +5,8 @@ use Rattle.reader.proofs.marks.Reader.from_state.Goals as goal
 
 pub returns-in_err-opening : goal.returns-in_err-opening
 returns-in_err-opening c =
-    passes_up _ _ _ _ c.in_err-opening.field-0.0 c.from_residual.result c.from_residual.ensures.1
-    (stopped_first ((the_sign 32 ∷ []) ++ (the_number c.args.u ∷ [])) c.in_err-opening.ensures)
+    passes_up _ _ (stopped_first ((the_sign 32 ∷ []) ++ (the_number c.args.u ∷ [])) c.in_err-opening.ensures) c.from_residual.ensures.1
 
 pub returns-in_err-take : goal.returns-in_err-take
 returns-in_err-take c =
-    passes_up _ _ _ _ c.in_err-take.field-0.0 c.from_residual-in_err-take.result c.from_residual-in_err-take.ensures.1
-    (stopped_then c.in_ok-opening.ensures (stopped_first (the_number c.args.u ∷ []) c.in_err-take.ensures))
+    passes_up _ _ (stopped_then c.in_ok-opening.ensures (stopped_first (the_number c.args.u ∷ []) c.in_err-take.ensures)) c.from_residual-in_err-take.ensures.1

@@ -4,10 +4,8 @@ use Rattle.reader.proofs.marks.Reader.last_number.Goals as goal
 
 pub returns-in_err-n : goal.returns-in_err-n
 returns-in_err-n c =
-    passes_up _ _ _ _ c.in_err-n.field-0.0 c.from_residual.result c.from_residual.ensures.1
-    (stopped_first (line_end) c.in_err-n.ensures)
+    passes_up _ _ (stopped_first (line_end) c.in_err-n.ensures) c.from_residual.ensures.1
 
 pub returns-in_err-line_end : goal.returns-in_err-line_end
 returns-in_err-line_end c =
-    passes_up _ _ _ _ c.in_err-line_end.field-0.0 c.from_residual-in_err-line_end.result c.from_residual-in_err-line_end.ensures.1
-    (stopped_then c.in_ok-n.ensures c.in_err-line_end.ensures)
+    passes_up _ _ (stopped_then c.in_ok-n.ensures c.in_err-line_end.ensures) c.from_residual-in_err-line_end.ensures.1

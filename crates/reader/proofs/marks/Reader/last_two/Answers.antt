@@ -6,10 +6,8 @@ use Rattle.reader.proofs.marks.Reader.last_two.Goals as goal
 
 pub returns-in_err-first : goal.returns-in_err-first
 returns-in_err-first c =
-    passes_up _ _ _ _ c.in_err-first.field-0.0 c.from_residual.result c.from_residual.ensures.1
-    (stopped_first (the_sign 32 ∷ a_number ∷ line_end) c.in_err-first.ensures)
+    passes_up _ _ (stopped_first (the_sign 32 ∷ a_number ∷ line_end) c.in_err-first.ensures) c.from_residual.ensures.1
 
 pub returns-in_err-second : goal.returns-in_err-second
 returns-in_err-second c =
-    passes_up _ _ _ _ c.in_err-second.field-0.0 c.from_residual-in_err-second.result c.from_residual-in_err-second.ensures.1
-    (stopped_then c.in_ok-first.ensures c.in_err-second.ensures)
+    passes_up _ _ (stopped_then c.in_ok-first.ensures c.in_err-second.ensures) c.from_residual-in_err-second.ensures.1

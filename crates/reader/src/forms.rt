@@ -106,6 +106,7 @@ impl<'a> Reader<'a> {
         self.take(Want::Sign(Sign::Closing))?;
         Ok(n)
     }
+
     // `)` and a line feed
     pub(crate) fn line_end(&mut self) -> Result<(), Fault>
         ensures { Reads line_end none self.old self.new result }

@@ -86,6 +86,7 @@ impl<'a> Reader<'a> {
             Err(fault) => fault,
         }
     }
+
     // The cuts of one state, and the end of its line.
     fn cut_line(&mut self, cuts: &mut CutRows) -> Result<(), ReadError>
         ensures { CutsTold self.old self.new cuts.old cuts.new result }
@@ -99,6 +100,7 @@ impl<'a> Reader<'a> {
         self.line_end()?;
         Ok(())
     }
+
     // `(from u`, the cuts of the state, and the end of its line; with where its entries begin.
     fn state_line(&mut self, u: u32, lines: &mut Lines) -> Result<(), ReadError>
         ensures { LineTold u self.old self.new lines.old lines.new result }

@@ -13,7 +13,7 @@ use crate::marks::{Reader, Sign, Token};
 use std::alloc::Global;
 use text::{Fault, Order};
 
-// What an order tells to do.
+// What an order tells to do: an order before its numbers are read.
 #[derive(Clone, Copy)]
 pub(crate) enum Verb {
     Ratio,

@@ -1,7 +1,7 @@
 // The rows that the lines of the states fill.
 ghost use Rattle.std.specs.Prelude.{◌≤◌, length};
 
-// The cuts of all states one after another: where each leads, and what it costs.
+// The cuts of all states one after another: where each leads, and what it costs. They are two rows, since TableRows lends each by itself.
 #[derive(Drop)]
 pub(crate) struct CutRows {
     pub(crate) targets: Vec<u32>,

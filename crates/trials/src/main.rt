@@ -23,7 +23,7 @@ fn judge(rt: &HostRuntime, text: &[u8]) -> anyhow::Result<()> {
     Ok(())
 }
 
-// The number in front of some bytes, and what follows it.
+// The number in front of some bytes, 0 where no digit stands there, and what follows it.
 fn length_at(bytes: &[u8]) -> (usize, &[u8])
     ensures { length result.1.now ≤ length bytes.now }
 {

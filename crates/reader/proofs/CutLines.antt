@@ -1,12 +1,13 @@
 -- The cuts of one state, read one after another: what is left to read, put behind what was read, is the whole.
-use Rattle.std.proofs.Common.{◌≡◌, ℕ, zero, suc, ◌-◌, ◌<◌, ◌≤◌, Bool, true, false, List, [], ◌∷◌, ◌++◌, map, length, vec_items, sym, refl, ap, ◌∙◌, arith}
+use Rattle.std.proofs.Common.{◌≡◌, ℕ, zero, suc, ◌-◌, ◌<◌, ◌≤◌, true, false, List, [], ◌∷◌, ◌++◌, map, length, vec_items, sym, refl, ap, ◌∙◌, arith}
 use Rattle.std.proofs.lemmas.List.{append_assoc, append-nil, length-append, map-append}
 use Rattle.text.specs.declared.Fault.{Fault}
 use Rattle.text.specs.Marks.{next}
 use Rattle.text.specs.Forms.{Got, got, fault, and_then, meets, follow}
-use Rattle.text.specs.Document.{Cut, opening, closing, space, a_cut, line_end}
+use Rattle.text.specs.Document.{Cut, closing, a_cut, line_end}
 use Rattle.text.specs.Reading.{cut_of, cuts_from}
 use Rattle.text.proofs.Forms.{goes}
+use Rattle.text.proofs.Cuts.{cuts_by}
 use Rattle.reader.specs.declared.marks.Reader.{Reader}
 use Rattle.reader.specs.declared.rows.CutRows.{CutRows}
 use Rattle.reader.specs.Readings.{Went, Stopped, rest, told}
@@ -25,33 +26,18 @@ onto_more xs x (got ys q bs) = ap (λ z. got z q bs) (sym (append_assoc xs (x �
 onto_more xs x (fault l c p) = refl
 
 module _ (p : ℕ) (bs : List ℕ) where
-  turn : ℕ → Bool → Got (List Cut)
-  turn zero t =
-      elim t [
-        | true ↦ and_then (follow line_end p bs) (λ ns q rest. got [] q rest)
-        | false ↦ and_then (follow (space ∷ opening ∷ []) p bs) (λ ns q rest. fault 2 4 (q - 1))
-      ]
-  turn (suc k) t =
-      elim t [
-        | true ↦ and_then (follow line_end p bs) (λ ns q rest. got [] q rest)
-        | false ↦ and_then (follow a_cut p bs) (λ ns q rest. and_then (cuts_from k q rest) (λ cs q rest. got (cut_of ns ∷ cs) q rest))
-      ]
-
-  cuts_turn : (k : ℕ) → cuts_from k p bs ≡ turn k (meets closing (next bs))
-  unfolding turn
+  cuts_turn : (k : ℕ) → cuts_from k p bs ≡ cuts_by k p bs (meets closing (next bs))
   cuts_turn zero = refl
   cuts_turn (suc k) = refl
 
   -- A closing bracket ends the line.
   cuts_end : (k : ℕ) → meets closing (next bs) ≡ true → cuts_from k p bs ≡ and_then (follow line_end p bs) (λ ns q rest. got [] q rest)
-  unfolding turn
-  cuts_end zero e = cuts_turn zero ∙ ap (turn zero) e
-  cuts_end (suc k) e = cuts_turn (suc k) ∙ ap (turn (suc k)) e
+  cuts_end zero e = cuts_turn zero ∙ ap (cuts_by zero p bs) e
+  cuts_end (suc k) e = cuts_turn (suc k) ∙ ap (cuts_by (suc k) p bs) e
 
   -- Before any other mark a cut is wanted.
   cuts_go : (k : ℕ) → meets closing (next bs) ≡ false → cuts_from (suc k) p bs ≡ and_then (follow a_cut p bs) (λ ns q rest. and_then (cuts_from k q rest) (λ cs q rest. got (cut_of ns ∷ cs) q rest))
-  unfolding turn
-  cuts_go k e = cuts_turn (suc k) ∙ ap (turn (suc k)) e
+  cuts_go k e = cuts_turn (suc k) ∙ ap (cuts_by (suc k) p bs) e
 
 -- What was read so far, and what is left.
 pub record Sofar (from mid : Reader) (before rows : CutRows) : Type 0 where

@@ -1,9 +1,9 @@
 -- The estimates, read one after another.
-use Rattle.std.proofs.Common.{◌≡◌, ℕ, suc, ◌+◌, ◌-◌, ◌<◌, List, [], ◌∷◌, ◌++◌, sym, refl, ap, ◌∙◌, arith}
+use Rattle.std.proofs.Common.{◌≡◌, ℕ, suc, ◌+◌, ◌-◌, ◌<◌, ◌≤◌, List, [], ◌∷◌, ◌++◌, sym, refl, ap, ◌∙◌, arith}
 use Rattle.std.proofs.lemmas.List.{append_assoc, append-nil}
 use Rattle.text.specs.declared.Fault.{Fault}
 use Rattle.text.specs.Forms.{Form, Got, got, fault, and_then, follow, the_sign, a_number}
-use Rattle.text.specs.Document.{spaced_numbers}
+use Rattle.text.specs.Document.{spaced_numbers, line_end}
 use Rattle.text.proofs.Forms.{goes, after, follow_append}
 use Rattle.reader.specs.declared.marks.Reader.{Reader}
 use Rattle.reader.specs.Readings.{Went, Stopped, rest}
@@ -18,8 +18,12 @@ pub record Left (whole f : Form) (ns : List ℕ) (start mid : Reader) : Type 0 w
 one_less : (n i : ℕ) → i < n → n - i ≡ suc (n - (i + 1))
 one_less n i h = omega arith
 
-pub left_all : (f : Form) (start : Reader) → Left f f [] start start
-left_all f start = record { same = refl; left = onto_none (follow f start.at (rest start)) }
+-- At first all n are wanted, and none is read.
+pub left_all : (n : ℕ) (ns : List ℕ) (start : Reader) → ns ≡ [] → Left (spaced_numbers n) (spaced_numbers (n - 0)) ns start start
+left_all n ns start e =
+    let all : n ≡ n - 0 = omega arith in
+    let f = λ (k : ℕ). follow (spaced_numbers k) start.at (rest start) in
+    rw e (record { same = refl; left = onto_none (f n) ∙ ap (λ k. and_then (f k) (onto [])) all })
 
 onto_onto : (ns ms : List ℕ) (g : Got (List ℕ)) → and_then (and_then g (onto ms)) (onto ns) ≡ and_then g (onto (ns ++ ms))
 onto_onto ns ms (got xs q bs) = ap (λ z. got z q bs) (sym (append_assoc ns ms xs))
@@ -57,3 +61,8 @@ pub number_fault :
     {n i : ℕ} {whole : Form} {ns : List ℕ} {start mid to : Reader} {e : Fault}
     → Left whole (spaced_numbers (n - i)) ns start mid → i < n → Stopped (the_sign 32 ∷ a_number ∷ []) mid to e → Stopped whole start to e
 number_fault {n} {i} s h w = left_fault (rw (one_less n i h) at s) (stopped_first (spaced_numbers (n - (i + 1))) w)
+
+-- Where none is wanted any more, the end of the line is.
+pub left_none :
+    {n i : ℕ} {whole : Form} {ns : List ℕ} {start mid : Reader} → Left whole (spaced_numbers (n - i)) ns start mid → n ≤ i → Left whole line_end ns start mid
+left_none {n} {i} s h = let none : n - i ≡ 0 = omega arith in rw none at s

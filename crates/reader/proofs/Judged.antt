@@ -1,6 +1,5 @@
 -- The verdict on a text, with all that is promised of it.
-use Rattle.std.proofs.Common.{◌≡◌, ℕ, ◌<◌, ◌≤◌, true, false, List, length, sym, refl, ap, ◌∙◌, subst, arith}
-use Rattle.std.proofs.lemmas.Bool.{le-leb, lt-leb}
+use Rattle.std.proofs.Common.{◌≡◌, ℕ, ◌<◌, ◌≤◌, List, length, sym, refl, ap, ◌∙◌, subst, arith}
 use Rattle.course.specs.Refusals.{number_of}
 use Rattle.table.specs.Table.{Rows, Passes, Worst}
 use Rattle.text.specs.declared.Fault.{Fault}
@@ -10,7 +9,7 @@ use Rattle.text.specs.Forms.{Got, got, fault}
 use Rattle.text.specs.Document as rules
 use Rattle.text.specs.Reading.{document, parsed}
 use Rattle.text.specs.Verdicts.{Verdict, Says, Concludes, accepted, refused}
-use Rattle.text.proofs.Documents.{accepted_is_written}
+use Rattle.text.proofs.Documents.{accepted_is_written, parsed_short, parsed_long}
 use Rattle.text.proofs.Faults.{verdict_once, faults_are_real}
 use Rattle.text.proofs.Begun.{faults_are_first}
 use Rattle.text.proofs.Causes.{causes_are_told}
@@ -18,12 +17,6 @@ use Rattle.reader.specs.declared.document.Document.{Document}
 use Rattle.reader.specs.Readings.{told}
 use Rattle.reader.specs.Documents.{rows_of, DocumentRead}
 use Rattle.reader.specs.Verdict.{Accepted, Refused}
-
-parsed_short : (text : List ℕ) → length text ≤ 60000 → parsed text ≡ document text
-parsed_short text h = ap (λ t. elim t [ true ↦ document text | false ↦ fault 2 4 60000 ]) (le-leb (length text) 60000 h)
-
-parsed_long : (text : List ℕ) → 60000 < length text → parsed text ≡ fault 2 4 60000
-parsed_long text h = ap (λ t. elim t [ true ↦ document text | false ↦ fault 2 4 60000 ]) (lt-leb (length text) 60000 h)
 
 apart : {d : rules.Document} {l c p : ℕ} → accepted d ≡ refused l c p → ⊥
 apart e = let z : ◌≡◌ {A = ℕ} 0 1 = cc in omega arith

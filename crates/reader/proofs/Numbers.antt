@@ -14,6 +14,7 @@ use Rattle.std.proofs.lemmas.Int.Digits.{digits_value_more}
 use Rattle.text.specs.declared.Kind.TheVariants.{Digit}
 use Rattle.text.specs.Marks.{kind, is_digit, number, bad, figures, mark_of, width_of, next, width, badly_written}
 use Rattle.text.proofs.Runs.{Every, front_passes, own}
+use Rattle.text.proofs.Forms.{apart}
 use Rattle.reader.specs.Meaning.{Figures}
 
 pub record DigitAt (ds : List ℕ) (i : ℕ) : Type 0 where
@@ -51,7 +52,7 @@ pub record FigureFront (bs ds : List ℕ) : Type 0 where
 
 pub figures_front :
     (bs ds : List ℕ) (b : ℕ) → Some b ≡ slice_get bs 0 → kind b ≡ Digit → ds ≡ take_while is_digit bs → badly_written ds ≡ false → FigureFront bs ds
-figures_front [] ds b s k t w = let none : ◌≡◌ {A = ℕ} 0 1 = cc in let no : ⊥ = omega arith in absurd no
+figures_front [] ds b s k t w = let none : ◌≡◌ {A = ℕ} 0 1 = cc in apart none
 figures_front (x ∷ rest) ds b s k t w =
     let bs = x ∷ rest in
     let e : kind x ≡ Digit = cc in

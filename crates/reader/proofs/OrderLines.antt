@@ -5,11 +5,11 @@ use Rattle.std.proofs.lemmas.List.{append-nil, length-append, length-drop, drop_
 use Rattle.text.specs.declared.Fault.{Fault}
 use Rattle.text.specs.declared.Order.{Order}
 use Rattle.text.specs.Marks.{Mark, sign, word, number, end, bad, next, width}
-use Rattle.text.specs.Forms.{filled, Got, got, fault, and_then, unwanted, meets, follow, the_word}
+use Rattle.text.specs.Forms.{filled, Got, got, fault, and_then, meets, follow, the_word}
 use Rattle.text.specs.Document.{Verb, ratio_verb, work_verb, ceiling_verb, show_verb, route_verb, named, how_many, verb, numbers, spaced_numbers, an_order, opening}
 use Rattle.text.specs.Reading.{order_of, verb_of, order_from, orders_from}
-use Rattle.text.proofs.Forms.{went, goes, follow_sound}
-use Rattle.text.proofs.Orders.{order_again, order_sound}
+use Rattle.text.proofs.Forms.{apart, went, goes, follow_sound}
+use Rattle.text.proofs.Orders.{order_by, order_again, order_sound}
 use Rattle.reader.specs.declared.marks.Reader.{Reader}
 use Rattle.reader.specs.Readings.{Went, Reads, rest, told}
 use Rattle.reader.specs.Orders.{Named, Came, OrderTold, order_line_from, all_orders}
@@ -26,7 +26,7 @@ picked w a v others e = go (bytes_eq (named a) w) refl e
     go false h e = inr e
 
 no_verb : {A : Type 0} (v : Verb) → None ≡ Some v → A
-no_verb v e = let z : ◌≡◌ {A = ℕ} 0 1 = cc in absurd (omega arith)
+no_verb v e = let z : ◌≡◌ {A = ℕ} 0 1 = cc in apart z
 
 -- A mark that names an order is its word.
 verb_met : (m : Mark) (v : Verb) → verb_of m ≡ Some v → meets (the_word (named v)) m ≡ true
@@ -52,14 +52,6 @@ verb_met (bad c) v e = no_verb v e
 again : (v : Verb) (o : Order) → verb o ≡ v → order_of v (numbers o) ≡ o
 again v o e = ap (λ x. order_of x (numbers o)) (sym e) ∙ order_again o
 
-module _ (p : ℕ) (bs : List ℕ) where
-  turn : Option Verb → Got Order
-  turn x = elim x [ Some v ↦ and_then (follow (an_order v) p bs) (λ ns q left. got (order_of v ns) q left) | None ↦ unwanted (next bs) p ]
-
-  order_turn : (v : Verb) → verb_of (next bs) ≡ Some v → order_from p bs ≡ and_then (follow (an_order v) p bs) (λ ns q left. got (order_of v ns) q left)
-  unfolding turn
-  order_turn v e = ap turn e
-
 -- An order is its word and its numbers.
 pub order_taken :
     (v : Verb) (from to : Reader) (stop : ℕ) (m : Mark) (r : Result Order Fault)
@@ -71,7 +63,7 @@ order_taken v from to stop m r e l s h n = go r (reads_then (spaced_numbers (how
     first = record { same = refl; tells = met_one (the_word (named v)) from.text.now from.at stop m e l (verb_met m v s) }
 
     this : order_from from.at (rest from) ≡ and_then (follow (an_order v) from.at (rest from)) (λ ns q left. got (order_of v ns) q left)
-    this = order_turn from.at (rest from) v (ap verb_of (sym e) ∙ s)
+    this = ap (λ x. order_by x from.at (rest from)) (ap verb_of (sym e) ∙ s)
 
     go : (r : Result Order Fault) → Reads (an_order v) numbers from to r → Named v r → OrderTold from to r
     go (Ok o) w n =

@@ -1,7 +1,7 @@
 -- A whole text: its first line, and what follows it.
-use Rattle.std.proofs.Common.{◌≡◌, ℕ, Bool, true, false, ◌&&◌, leb, Decides, List, length, get_or, drop, Ok, Err, vec_items, Result, Vec, sym, refl, ap, ◌∙◌, arith}
+use Rattle.std.proofs.Common.{◌≡◌, ℕ, Bool, true, false, Decides, List, length, drop, Ok, Err, vec_items, Result, Vec, sym, refl, ap, ◌∙◌}
 use Rattle.std.specs.declared.alloc.Global.{Global}
-use Rattle.std.proofs.lemmas.Bool.Decides.{nat_tests, same_from_decides}
+use Rattle.std.proofs.lemmas.Bool.Decides.{same_from_decides}
 use Rattle.text.specs.Causes.{Allowed}
 use Rattle.text.specs.declared.Fault.{Fault}
 use Rattle.text.specs.declared.Order.{Order}
@@ -10,6 +10,7 @@ use Rattle.text.specs.Document as rules
 use Rattle.text.specs.Document.{first_line, estimates_line}
 use Rattle.text.specs.Reading.{lines_from, orders_from, body, document}
 use Rattle.text.proofs.Forms.{goes}
+use Rattle.text.proofs.Documents.{after_head, by_count, counts, counts_true, allowed_counts}
 use Rattle.reader.specs.declared.errors.ReadError.{ReadError}
 use Rattle.reader.specs.declared.errors.ReadError.TheVariants.{AtFault, NoMemory}
 use Rattle.reader.specs.declared.marks.Reader.{Reader}
@@ -92,49 +93,29 @@ body_read h from mid after to lines hs os l w c =
 begins_at : (text : List ℕ) (from : Reader) → (from.text.now ≡ text) × (from.at ≡ 0) → (f : Form) → follow f 0 text ≡ follow f from.at (rest from)
 begins_at text from s f = ap (λ xs. follow f 0 xs) (sym s.0) ∙ ap (λ p. follow f p (drop p from.text.now)) (sym s.1)
 
-count_decided : (n : ℕ) → Decides (leb 2 n && leb n 1024) (Allowed n)
-count_decided n = (λ h. grind (arith, nat_tests), λ h. grind (arith, nat_tests))
-
 module _ (text : List ℕ) (from mid : Reader) (s : (from.text.now ≡ text) × (from.at ≡ 0)) where
-  counted : ℕ → ℕ → ℕ → ℕ → List ℕ → Bool → Got rules.Document
-  counted n g e q left t = elim t [ true ↦ body n g e q left | false ↦ fault 3 5 0 ]
-
-  allowed : ℕ → Bool
-  allowed n = leb 2 n && leb n 1024
-
-  document_is : document text ≡ and_then (follow first_line 0 text) (λ ns q left. counted (get_or ns 0 0) (get_or ns 1 0) (get_or ns 2 0) q left (allowed (get_or ns 0 0)))
-  unfolding counted allowed
+  document_is : document text ≡ and_then (follow first_line 0 text) after_head
+  unfolding after_head
   document_is = refl
 
   pub head_stop : (e : Fault) → Stopped first_line from mid e → document text ≡ told e
-  head_stop e w =
-      document_is
-      ∙ ap (λ r. and_then r (λ ns q left. counted (get_or ns 0 0) (get_or ns 1 0) (get_or ns 2 0) q left (allowed (get_or ns 0 0)))) (begins_at text from s first_line ∙ w.tells)
+  head_stop e w = document_is ∙ ap (λ r. and_then r after_head) (begins_at text from s first_line ∙ w.tells)
 
   module _ (h : Head) (w : Went first_line (headed h) from mid) where
-    behind_head : document text ≡ counted h.states h.start h.goal mid.at (rest mid) (allowed h.states)
-    behind_head =
-        document_is
-        ∙ goes (follow first_line 0 text) (λ ns q left. counted (get_or ns 0 0) (get_or ns 1 0) (get_or ns 2 0) q left (allowed (get_or ns 0 0))) (headed h) mid.at (rest mid)
-        (counted h.states h.start h.goal mid.at (rest mid) (allowed h.states))
-        (begins_at text from s first_line ∙ w.tells)
-        refl
-
     -- The reading goes on exactly where the number of states is allowed.
-    counted_by : (t : Bool) → Decides t (Allowed h.states) → document text ≡ counted h.states h.start h.goal mid.at (rest mid) t
-    unfolding allowed
+    counted_by : (t : Bool) → Decides t (Allowed h.states) → document text ≡ by_count (headed h) mid.at (rest mid) t
+    unfolding after_head
     counted_by t d =
-        behind_head
-        ∙ ap (counted h.states h.start h.goal mid.at (rest mid))
-        (same_from_decides (leb 2 h.states && leb h.states 1024) t (count_decided h.states) d)
+        document_is
+        ∙ goes (follow first_line 0 text) after_head (headed h) mid.at (rest mid) (by_count (headed h) mid.at (rest mid) t)
+        (begins_at text from s first_line ∙ w.tells)
+        (ap (by_count (headed h) mid.at (rest mid)) (same_from_decides (counts h.states) t (counts_true h.states, allowed_counts h.states) d))
 
     pub miscounted : (t : Bool) → Decides t (Allowed h.states) → t ≡ false → document text ≡ fault 3 5 0
-    unfolding counted
-    miscounted t d e = counted_by t d ∙ ap (counted h.states h.start h.goal mid.at (rest mid)) e
+    miscounted t d e = counted_by t d ∙ ap (by_count (headed h) mid.at (rest mid)) e
 
     pub well_counted : (t : Bool) → Decides t (Allowed h.states) → t ≡ true → document text ≡ body h.states h.start h.goal mid.at (rest mid)
-    unfolding counted
-    well_counted t d e = counted_by t d ∙ ap (counted h.states h.start h.goal mid.at (rest mid)) e
+    well_counted t d e = counted_by t d ∙ ap (by_count (headed h) mid.at (rest mid)) e
 
     pub document_read : (to : Reader) (d : Document) → document text ≡ body h.states h.start h.goal mid.at (rest mid) → BodyRead h mid to d → DocumentRead text d
     document_read to d e b = record { is = b.is; place = to.at; left = rest to; reads = e ∙ b.reads; held = b.held }

@@ -1,8 +1,8 @@
-use Rattle.std.proofs.Common.{ℕ, List, ◌≡◌, ◌+◌, ◌-◌, [], is_ok, vec_items, sym, ap, subst, arith}
+use Rattle.std.proofs.Common.{ℕ, List, ◌+◌, ◌-◌, is_ok, sym, ap, subst, arith}
 use Rattle.std.proofs.ResultArms.{chosen}
 use Rattle.text.specs.Document.{spaced_numbers}
 use Rattle.reader.proofs.Steps.{went_then, stopped_first, stopped_then, passes_out}
-use Rattle.reader.proofs.Estimates.{Left, left_all, left_number, number_fault, left_fault, left_end}
+use Rattle.reader.proofs.Estimates.{Left, left_all, left_none, left_number, number_fault, left_fault, left_end}
 use Rattle.reader.proofs.marks.Reader.estimates.Goals as goal
 
 pub returns-in_err-opening : goal.returns-in_err-opening
@@ -11,12 +11,7 @@ returns-in_err-opening c =
     (stopped_first (spaced_numbers c.args.states) c.in_err-opening.ensures).tells
 
 pub loop-i-init : goal.loop-i-init
-loop-i-init c =
-    let n = c.args.states in
-    let all : n ≡ n - 0 = omega arith in
-    subst (λ xs. Left (spaced_numbers n) (spaced_numbers (n - 0)) xs c.opening.new.self c.opening.new.self) (sym c.new-estimates.ensures.items)
-    (subst (λ k. Left (spaced_numbers n) (spaced_numbers k) [] c.opening.new.self c.opening.new.self) all
-    (left_all (spaced_numbers n) c.opening.new.self))
+loop-i-init c = left_all c.args.states _ c.opening.new.self c.new-estimates.ensures.items
 
 pub returns-in_err-spaced_number : goal.returns-in_err-spaced_number
 returns-in_err-spaced_number c =
@@ -32,13 +27,8 @@ loop-i-preserved c =
 
 pub returns-in_err-line_end : goal.returns-in_err-line_end
 returns-in_err-line_end c =
-    let none : c.args.states - c.loop-i._i ≡ 0 = omega arith in
-    let left = subst (λ k. Left (spaced_numbers c.args.states) (spaced_numbers k) (vec_items c.loop-i.estimates) c.opening.new.self c.loop-i.self) none c.loop-i.invariant in
     passes_out _ _ c.in_err-line_end.field-0.0 c.from_residual-in_err-line_end.result c.from_residual-in_err-line_end.ensures.1
-    (stopped_then c.in_ok-opening.ensures (left_fault left c.in_err-line_end.ensures)).tells
+    (stopped_then c.in_ok-opening.ensures (left_fault (left_none c.loop-i.invariant (omega arith)) c.in_err-line_end.ensures)).tells
 
 pub returns : goal.returns
-returns c =
-    let none : c.args.states - c.loop-i._i ≡ 0 = omega arith in
-    let left = subst (λ k. Left (spaced_numbers c.args.states) (spaced_numbers k) (vec_items c.loop-i.estimates) c.opening.new.self c.loop-i.self) none c.loop-i.invariant in
-    went_then c.in_ok-opening.ensures (left_end left c.in_ok-line_end.ensures)
+returns c = went_then c.in_ok-opening.ensures (left_end (left_none c.loop-i.invariant (omega arith)) c.in_ok-line_end.ensures)

@@ -77,14 +77,9 @@ impl<'a> Reader<'a> {
     fn cut_too_many(&mut self) -> Fault
         ensures { meets closing (next (rest self.old)) ≡ false → cuts_from 0 self.old.at (rest self.old) ≡ told result }
     {
-        match self.spaced_opening() {
-            Ok(()) => Fault::new(
-                Layer::Forms,
-                Refusal::TextTooLong,
-                self.at.saturating_sub(1),
-            ),
-            Err(fault) => fault,
-        }
+        let unwanted = self.spaced_opening().err();
+        let place = self.at.saturating_sub(1);
+        unwanted.unwrap_or(Fault::new(Layer::Forms, Refusal::TextTooLong, place))
     }
 
     // The cuts of one state, and the end of its line.

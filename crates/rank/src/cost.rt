@@ -6,7 +6,7 @@ ghost use Rattle.rank.specs.OrderLaws.{by_state_lawful, least_first};
 use crate::rank_trait::Rank;
 
 // A sum and a state: the smaller sum first, then the smaller state.
-#[derive(Clone, Copy, PartialEq, Eq, Debug)]
+#[derive(Clone, Copy, PartialEq, Eq, PartialOrd, Ord, Debug)]
 pub struct CostRank {
     pub sum: u64,
     pub state: u32,
@@ -24,6 +24,6 @@ impl Rank for CostRank {
     }
 
     fn no_later(&self, other: &CostRank) -> bool {
-        self.sum < other.sum || (self.sum == other.sum && self.state <= other.state)
+        self <= other
     }
 }

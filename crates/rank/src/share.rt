@@ -6,7 +6,7 @@ ghost use Rattle.rank.specs.OrderLaws.{by_state_lawful, largest_share_first};
 use crate::rank_trait::Rank;
 
 // An over, an under and a state: the larger exact quotient over/under first, an under of 0 before every under above 0; equal quotients, and
-// two unders of 0, by the smaller state.
+// two unders of 0, by the smaller state. It is no Ord, whose equal values are ==: 0/0 and 5/0 of one state are unequal and tie.
 #[derive(Clone, Copy, PartialEq, Eq, Debug)]
 pub struct ShareRank {
     pub over: u32,
@@ -14,11 +14,17 @@ pub struct ShareRank {
     pub state: u32,
 }
 
-// The over of a quotient, or 1 where the under is 0: then 1/0 is above every quotient when two are compared by products.
-fn weighed(over: u32, under: u32) -> u64
-    ensures { (result ≡ weight over under) × (result < 2 ^ 32) }
-{
-    if under == 0 { 1 } else { u64::from(over) }
+impl ShareRank {
+    // The over of the quotient, or 1 where the under is 0: then 1/0 is above every quotient when two are compared by products.
+    fn weighed(&self) -> u64
+        ensures { (result ≡ weight self.now.over self.now.under) × (result < 2 ^ 32) }
+    {
+        if self.under == 0 {
+            1
+        } else {
+            u64::from(self.over)
+        }
+    }
 }
 
 impl Rank for ShareRank {
@@ -33,8 +39,8 @@ impl Rank for ShareRank {
     }
 
     fn no_later(&self, other: &ShareRank) -> bool {
-        let theirs = weighed(other.over, other.under) * u64::from(self.under);
-        let mine = weighed(self.over, self.under) * u64::from(other.under);
-        theirs < mine || (theirs == mine && self.state <= other.state)
+        let theirs = other.weighed() * u64::from(self.under);
+        let mine = self.weighed() * u64::from(other.under);
+        (theirs, self.state) <= (mine, other.state)
     }
 }

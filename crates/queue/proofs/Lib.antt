@@ -1,4 +1,3 @@
-pub mod Exchanges
 pub mod Earliest
 pub mod Calls
 pub mod Strikes

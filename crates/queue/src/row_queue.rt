@@ -1,12 +1,13 @@
 // A queue of ranks over a borrowed row.
-ghost use Rattle.std.specs.Prelude.{◌≡◌, ◌≤◌, length, MatchResult};
+ghost use Rattle.std.specs.Prelude.{◌≡◌, ◌≤◌, length, take, MatchOption, MatchResult};
 ghost use Rattle.course.specs.Refusals.{number_of};
-ghost use Rattle.queue.specs.Held.{Unchanged, Put, Taken, Struck};
+ghost use Rattle.queue.specs.Held.{IsEarliest, Parts};
 
 use course::Refusal;
 use rank::Rank;
 
-// The first len entries of the row are the held ranks, in any order. The entries behind them are free.
+// The first len entries of the row are the held ranks, in any order. The entries behind them are free. (The row is lent, since the planner's
+// memory is fixed: so their number stands beside it.)
 #[derive(Drop)]
 pub struct Queue<'q, R> {
     row: &'q mut [R],
@@ -14,8 +15,24 @@ pub struct Queue<'q, R> {
     ghost fits: { len ≤ length row.now },
 }
 
-// `same` says of each call that the queue keeps the row that it was lent, so that the lender learns what this holds when the queue ends.
+// Puts the ranks of a state behind all others, and answers how many others there are.
+fn part<R: Rank>(held: &mut [R], struck: u32) -> usize
+    ensures { Parts R.state struck held.old held.new result }
+{
+    let mut stay = held.len();
+    // from the last on, so that each is looked at once; by its place, since it may be exchanged
+    for i in (0..held.len()).rev() {
+        if held[i].state() == struck {
+            stay -= 1;
+            held.swap(i, stay);
+        }
+    }
+    stay
+}
+
 impl<'q, R: Rank + Copy> Queue<'q, R> {
+    ghost use Rattle.queue.specs.Queues.{KeepsRow, IsUnchanged, IsFull, Puts, Takes, Strikes};
+
     // An empty queue over a row, which stays as it is.
     pub fn over(row: &'q mut [R]) -> Queue<'q, R>
         ensures empty { result.len ≡ 0 }
@@ -34,11 +51,10 @@ impl<'q, R: Rank + Copy> Queue<'q, R> {
 
     // Adds a rank, or is refused where the row is full.
     pub fn put(&mut self, rank: R) -> Result<(), Refusal>
-        ensures same { self.new.row.ghost_name ≡ self.old.row.ghost_name }
+        ensures same { KeepsRow self.old self.new }
         ensures answer { MatchResult result
-            (λ _. Put rank self.old.row.now self.old.len self.new.row.now self.new.len)
-            (λ e. (number_of e ≡ 39) × (self.old.len ≡ length self.old.row.now)
-            × Unchanged self.old.row.now self.old.len self.new.row.now self.new.len) }
+            (λ _. Puts rank self.old self.new)
+            (λ e. (number_of e ≡ 39) × IsFull self.old × IsUnchanged self.old self.new) }
     {
         if self.len < self.row.len() {
             self.row[self.len] = rank;
@@ -49,54 +65,39 @@ impl<'q, R: Rank + Copy> Queue<'q, R> {
         }
     }
 
+    // Where the first rank stands; of several that each are no later than all others, where the last of them does.
+    fn first(&self) -> Option<usize>
+        ensures { MatchOption result (self.now.len ≡ 0) (IsEarliest R.precedes (take self.now.len self.now.row.now)) }
+    {
+        self.row[..self.len]
+            .iter()
+            .enumerate()
+            .reduce(|best, next| if next.1.no_later(best.1) { next } else { best })
+            .map(|best| best.0)
+    }
+
     // Removes the first rank and answers its state, or is refused where none is held.
     pub fn take(&mut self) -> Result<u32, Refusal>
-        ensures same { self.new.row.ghost_name ≡ self.old.row.ghost_name }
+        ensures same { KeepsRow self.old self.new }
         ensures answer { MatchResult result
-            (λ s. Taken R.state R.precedes s self.old.row.now self.old.len self.new.row.now self.new.len)
-            (λ e. (number_of e ≡ 40) × (self.old.len ≡ 0)
-            × Unchanged self.old.row.now self.old.len self.new.row.now self.new.len) }
+            (λ s. Takes R.state R.precedes s self.old self.new)
+            (λ e. (number_of e ≡ 40) × (self.old.len ≡ 0) × IsUnchanged self.old self.new) }
     {
-        if self.len == 0 {
-            return Err(Refusal::QueueEmpty);
-        }
-        let mut best = 0;
-        for i in 1..self.len {
-            let x = self.row[i];
-            let y = self.row[best];
-            if x.no_later(&y) {
-                best = i;
-            }
-        }
+        let best = self.first().ok_or(Refusal::QueueEmpty)?;
         let last = self.len - 1;
-        let out = self.row[best];
-        let moved = self.row[last];
-        self.row[best] = moved;
-        self.row[last] = out;
+        self.row.swap(best, last);
         self.len = last;
-        Ok(out.state())
+        let taken = self.row[last];
+        Ok(taken.state())
     }
 
     // Removes all ranks of a state, and answers how many.
     pub fn strike(&mut self, struck: u32) -> usize
-        ensures same { self.new.row.ghost_name ≡ self.old.row.ghost_name }
-        ensures answer { Struck R.state struck result self.old.row.now self.old.len self.new.row.now self.new.len }
+        ensures same { KeepsRow self.old self.new }
+        ensures answer { Strikes R.state struck result self.old self.new }
     {
-        let len = self.len;
-        let mut stay = len;
-        let mut i = 0;
-        while i < stay {
-            let x = self.row[i];
-            if x.state() == struck {
-                stay -= 1;
-                let moved = self.row[stay];
-                self.row[i] = moved;
-                self.row[stay] = x;
-            } else {
-                i += 1;
-            }
-        }
-        self.len = stay;
-        len - stay
+        let held = self.len;
+        self.len = part(&mut self.row[..held], struck);
+        held - self.len
     }
 }

@@ -4,6 +4,7 @@
 
 use queue::Queue;
 use rank::CostRank;
+use std::{fmt, io};
 
 // How often each row is filled and emptied.
 const SMALL_ROUNDS: u32 = 2_048;
@@ -13,7 +14,7 @@ const LARGE_ROUNDS: u32 = 128;
 const FREE: CostRank = CostRank { sum: 0, state: 0 };
 
 // How many ranks were put, struck and taken, and how many were left at the ends of the rounds.
-#[derive(Clone, Copy)]
+#[derive(Clone, Copy, Default)]
 struct Counts {
     put: usize,
     struck: usize,
@@ -21,58 +22,53 @@ struct Counts {
     left: usize,
 }
 
-// Fills the row with ranks of mixed sums and of states below 64, strikes the state 7, and takes all others.
-fn round(row: &mut [CostRank], mut counts: Counts) -> Counts {
-    let entries = row.len();
-    let mut queue = Queue::over(row);
-    let mut mixed: u32 = 1;
-    for _ in 0..entries {
-        mixed = mixed.wrapping_mul(1_664_525).wrapping_add(1_013_904_223);
-        let rank = CostRank {
-            sum: u64::from(mixed >> 16),
-            state: mixed % 64,
-        };
-        if queue.put(rank).is_ok() {
-            counts.put = counts.put.wrapping_add(1);
+impl Counts {
+    // Fills the row with ranks of mixed sums and of states below 64, strikes the state 7, and takes all others.
+    fn round(&mut self, row: &mut [CostRank]) {
+        let entries = row.len();
+        let mut queue = Queue::over(row);
+        let mut mixed: u32 = 1;
+        for _ in 0..entries {
+            mixed = mixed.wrapping_mul(1_664_525).wrapping_add(1_013_904_223);
+            let rank = CostRank {
+                sum: u64::from(mixed >> 16),
+                state: mixed % 64,
+            };
+            if queue.put(rank).is_ok() {
+                self.put = self.put.wrapping_add(1);
+            }
         }
-    }
-    counts.struck = counts.struck.wrapping_add(queue.strike(7));
-    for _ in 0..entries {
-        if queue.take().is_ok() {
-            counts.taken = counts.taken.wrapping_add(1);
+        self.struck = self.struck.wrapping_add(queue.strike(7));
+        for _ in 0..entries {
+            if queue.take().is_ok() {
+                self.taken = self.taken.wrapping_add(1);
+            }
         }
+        self.left = self.left.wrapping_add(queue.len());
     }
-    counts.left = counts.left.wrapping_add(queue.len());
-    counts
 }
 
-fn measured(row: &mut [CostRank], rounds: u32) -> Counts {
-    let mut counts = Counts {
-        put: 0,
-        struck: 0,
-        taken: 0,
-        left: 0,
-    };
+impl fmt::Display for Counts {
+    fn fmt<W: fmt::Write>(&self, f: &mut fmt::Formatter<W>) -> fmt::Result {
+        write!(
+            f,
+            "{} put, {} struck, {} taken, {} left",
+            self.put, self.struck, self.taken, self.left
+        )
+    }
+}
+
+fn tell(rt: &impl Print, row: &mut [CostRank], rounds: u32) -> anyhow::Result<()> {
+    let entries = row.len();
+    let mut counts = Counts::default();
     for _ in 0..rounds {
-        counts = round(row, counts);
+        counts.round(row);
     }
-    counts
-}
-
-fn tell(rt: &HostRuntime, row: &mut [CostRank], rounds: u32) -> anyhow::Result<()> {
-    let entries = row.len();
-    let counts = measured(row, rounds);
-    let put = counts.put;
-    let struck = counts.struck;
-    let taken = counts.taken;
-    let left = counts.left;
-    println!(rt;
-        "{entries} entries, {rounds} rounds: {put} put, {struck} struck, {taken} taken, {left} left"
-    )?;
+    println!(rt; "{entries} entries, {rounds} rounds: {counts}")?;
     Ok(())
 }
 
-fn run(rt: &HostRuntime) -> anyhow::Result<()> {
+fn run(rt: &impl Print) -> anyhow::Result<()> {
     let mut small = [FREE; 64];
     tell(rt, &mut small, SMALL_ROUNDS)?;
     let mut large = [FREE; 1024];

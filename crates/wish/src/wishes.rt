@@ -11,7 +11,7 @@ fn share_of(a: u64, b: u64, numbers: &Numbers) -> ShareRank
     ensures { result ≡ record { over = cut_off a b; under = numbers.now.h; state = numbers.now.state } }
 {
     ShareRank {
-        over: a.saturating_sub(b).min(4294967295) as u32,
+        over: u32::try_from(a.saturating_sub(b)).unwrap_or(u32::MAX),
         under: numbers.h,
         state: numbers.state,
     }

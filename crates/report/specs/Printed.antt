@@ -1,33 +1,18 @@
 -- What is printed.
-use Rattle.std.specs.Prelude.{◌≡◌, ℕ, ◌+◌, ◌-◌, List, [], ◌∷◌, ◌++◌, length, codes, decimal, slice_index}
-use Rattle.std.specs.List.{range_with_len, flat_map}
+use Rattle.std.specs.Prelude.{◌≡◌, ℕ, ◌+◌, ◌-◌, List, [], ◌∷◌, ◌++◌, length, codes, slice_index}
+use Rattle.std.specs.List.{range_with_len, flat_map, zip}
 use Rattle.table.specs.Table.{Rows, states}
-use Rattle.course.specs.Refusals.{number_of}
-use Rattle.text.specs.declared.Fault.{Fault}
-use Rattle.text.specs.Layers.{layer_number}
-use Rattle.reader.specs.declared.errors.ReadError.{ReadError}
-use Rattle.reader.specs.declared.errors.ReadError.TheVariants.{AtFault, NoMemory}
+pub use Rattle.text.specs.FaultText.{spaced}
 use Rattle.text.specs.Rows.{table_rows}
 use Rattle.text.specs.Verdicts.{Verdict, Says, accepted, refused}
 
--- A space and a number; and the end of a line.
-abbrev pub spaced : ℕ → List ℕ
-spaced n = 32 ∷ decimal n
-
+-- The end of a line.
 abbrev pub feed : List ℕ
 feed = 10 ∷ []
 
 -- `fault`, then layer, cause and place.
 abbrev pub fault_numbers : ℕ → ℕ → ℕ → List ℕ
 fault_numbers layer cause place = codes "fault" ++ (spaced layer ++ (spaced cause ++ (spaced place ++ feed)))
-
-abbrev pub fault_line : Fault → List ℕ
-fault_line f = fault_numbers (layer_number f.layer) (number_of f.cause) f.place
-
--- Nothing is printed where memory failed.
-abbrev pub Complains : ReadError → List ℕ → Type 0
-Complains (AtFault f) out = out ≡ fault_line f
-Complains NoMemory out = ⊥
 
 -- A line of a word and a number, and a line of a cut: its state, its target and its cost.
 abbrev pub count_line : List ℕ → ℕ → List ℕ
@@ -38,6 +23,10 @@ cut_line u t c = codes "cut" ++ (spaced u ++ (spaced t ++ (spaced c ++ feed)))
 
 abbrev pub number_items : List ℕ → List ℕ
 number_items = flat_map spaced
+
+-- The lines of cuts of one state, by their targets and costs.
+abbrev pub cut_lines : ℕ → List ℕ → List ℕ → List ℕ
+cut_lines u targets costs = flat_map (λ p. cut_line u p.0 p.1) (zip targets costs)
 
 -- The lines of the cuts of state u, one for each of its entries.
 abbrev pub entry_line : Rows → ℕ → ℕ → List ℕ

@@ -1,114 +1,86 @@
 // What carve prints for a text. It stands on reader, text, table and course.
 #![tactic(auto)]
 
-ghost use Rattle.std.specs.Prelude.{◌≡◌, ◌+◌, ◌<◌, ◌≤◌, [], ◌++◌, length, IfOk, string_bytes, codes, OnOk};
+ghost use Rattle.std.specs.Prelude.{◌≡◌, ◌<◌, length, Some, IfOk, string_bytes};
 ghost use Rattle.table.specs.Table.{Shape};
 ghost use Rattle.table.specs.Checks.{rows_in};
 ghost use Rattle.reader.specs.Documents.{rows_of};
-ghost use Rattle.report.specs.Printed.{fault_line, count_line, cut_line, spaced, number_items, state_cuts, all_cuts, estimates_line, listing, Complains, Prints};
+ghost use Rattle.report.specs.Printed.{cut_lines, number_items, state_cuts, all_cuts, listing, Prints};
 
 use reader::{Document, ReadError, read};
 use std::alloc::{AllocError, Global};
+use std::fmt;
 use table::TableRows;
-use text::Fault;
 
-// `fault`, then layer, cause and place.
-fn fault_line(heap: Global, fault: Fault) -> Result<String, AllocError>
-    ensures { IfOk result (λ s. string_bytes s ≡ fault_line fault) }
-{
-    let layer = fault.layer.number();
-    let cause = fault.cause.number();
-    let place = fault.place;
-    format!(in heap; "fault {layer} {cause} {place}\n")
-}
-
-// What is printed where there is a fault; where memory failed, that is passed on.
-fn complaint(heap: Global, error: ReadError) -> Result<String, AllocError>
-    ensures { IfOk result (λ s. Complains error (string_bytes s)) }
-{
-    match error {
-        ReadError::AtFault(fault) => fault_line(heap, fault),
-        ReadError::NoMemory => Err(AllocError),
-    }
-}
-
-// A line of a word and a number.
-fn push_count(heap: Global, out: &mut String, word: &str, n: usize) -> Result<(), AllocError>
-    ensures { OnOk result (string_bytes out.new ≡ string_bytes out.old ++ count_line word.now n) }
-{
-    let line = format!(in heap; "{word} {n}\n")?;
-    out.push_str(line.as_str())
-}
-
-// A line of a cut.
-fn push_cut(
-    heap: Global,
-    out: &mut String,
+// The cuts of one state: their targets and their costs.
+#[derive(Clone, Copy)]
+struct StateCuts<'a> {
     state: usize,
-    target: u32,
-    cost: u32,
-) -> Result<(), AllocError>
-    ensures { OnOk result (string_bytes out.new ≡ string_bytes out.old ++ cut_line state target cost) }
-{
-    let line = format!(in heap; "cut {state} {target} {cost}\n")?;
-    out.push_str(line.as_str())
+    targets: &'a [u32],
+    costs: &'a [u32],
 }
 
-// A space and a number.
-fn push_number(heap: Global, out: &mut String, n: u32) -> Result<(), AllocError>
-    ensures { OnOk result (string_bytes out.new ≡ string_bytes out.old ++ spaced n) }
-{
-    let item = format!(in heap; " {n}")?;
-    out.push_str(item.as_str())
-}
+// A line for each cut: its state, its target and its cost.
+impl fmt::Display for StateCuts<'_> {
+    ghost output = { λ c. Some (cut_lines c.state c.targets.now c.costs.now) };
 
-// A space and a number, for each number.
-fn push_numbers(heap: Global, out: &mut String, numbers: &[u32]) -> Result<(), AllocError>
-    ensures { OnOk result (string_bytes out.new ≡ string_bytes out.old ++ number_items numbers.now) }
-{
-    for n in numbers {
-        push_number(heap, out, *n)?;
+    fn fmt<W: fmt::Write>(&self, f: &mut fmt::Formatter<W>) -> fmt::Result {
+        let state = self.state;
+        for (target, cost) in self.targets.iter().zip(self.costs) {
+            writeln!(f, "cut {state} {target} {cost}")?;
+        }
+        Ok(())
     }
-    Ok(())
 }
 
-// The lines of the cuts of one state.
-fn push_state(
-    heap: Global,
-    out: &mut String,
-    rows: &TableRows<'_>,
-    state: usize,
-) -> Result<(), AllocError>
-    requires { (Shape (rows_in rows.now)) × (state < length rows.now.estimates.now) }
-    ensures { OnOk result (string_bytes out.new ≡ string_bytes out.old ++ state_cuts (rows_in rows.now) state) }
-{
-    let first = rows.firsts[state] as usize;
-    let end = rows.firsts[state + 1] as usize;
-    for e in first..end {
-        push_cut(heap, out, state, rows.targets[e], rows.costs[e])?;
+// The cuts of all states.
+#[derive(Clone, Copy)]
+struct Cuts<'a> {
+    rows: TableRows<'a>,
+    ghost shape: { Shape (rows_in rows) },
+}
+
+impl Cuts<'_> {
+    fn of_state(&self, state: usize) -> StateCuts<'_>
+        requires { state < length self.now.rows.estimates.now }
+        ensures { cut_lines result.state result.targets.now result.costs.now ≡ state_cuts (rows_in self.now.rows) state }
+    {
+        let first = self.rows.firsts[state] as usize;
+        let end = self.rows.firsts[state + 1] as usize;
+        StateCuts {
+            state,
+            targets: &self.rows.targets[first..end],
+            costs: &self.rows.costs[first..end],
+        }
     }
-    Ok(())
 }
 
-// The lines of all cuts.
-fn push_cuts(heap: Global, out: &mut String, rows: &TableRows<'_>) -> Result<(), AllocError>
-    requires { Shape (rows_in rows.now) }
-    ensures { OnOk result (string_bytes out.new ≡ string_bytes out.old ++ all_cuts (rows_in rows.now)) }
-{
-    for state in 0..rows.estimates.len() {
-        push_state(heap, out, rows, state)?;
+// The lines of all cuts, state by state.
+impl fmt::Display for Cuts<'_> {
+    ghost output = { λ c. Some (all_cuts (rows_in c.rows)) };
+
+    fn fmt<W: fmt::Write>(&self, f: &mut fmt::Formatter<W>) -> fmt::Result {
+        for state in 0..self.rows.estimates.len() {
+            let cuts = self.of_state(state);
+            write!(f, "{cuts}")?;
+        }
+        Ok(())
     }
-    Ok(())
 }
 
-// The line of the estimates.
-fn push_estimates(heap: Global, out: &mut String, estimates: &[u32]) -> Result<(), AllocError>
-    ensures { OnOk result (string_bytes out.new ≡ string_bytes out.old ++ estimates_line estimates.now) }
-{
-    out.push_str("estimates")?;
-    push_numbers(heap, out, estimates)?;
-    out.push_str("\n")?;
-    Ok(())
+// Numbers, each behind a space.
+#[derive(Clone, Copy)]
+struct Spaced<'a>(&'a [u32]);
+
+impl fmt::Display for Spaced<'_> {
+    ghost output = { λ s. Some (number_items s.0.now) };
+
+    fn fmt<W: fmt::Write>(&self, f: &mut fmt::Formatter<W>) -> fmt::Result {
+        for n in self.0 {
+            write!(f, " {n}")?;
+        }
+        Ok(())
+    }
 }
 
 // What a text holds that is accepted.
@@ -117,14 +89,15 @@ fn list(heap: Global, document: &Document) -> Result<String, AllocError>
     ensures { IfOk result (λ s. string_bytes s ≡ listing (rows_of document.now) (length document.now.orders.items)) }
 {
     let rows = document.rows();
-    let mut out = String::new(heap);
-    push_count(heap, &mut out, "states", rows.estimates.len())?;
-    push_count(heap, &mut out, "start", rows.start as usize)?;
-    push_count(heap, &mut out, "goal", rows.goal as usize)?;
-    push_cuts(heap, &mut out, &rows)?;
-    push_estimates(heap, &mut out, rows.estimates)?;
-    push_count(heap, &mut out, "orders", document.orders.len())?;
-    Ok(out)
+    let states = rows.estimates.len();
+    let start = rows.start;
+    let goal = rows.goal;
+    let cuts = Cuts { rows };
+    let estimates = Spaced(rows.estimates);
+    let orders = document.orders.len();
+    format!(in heap;
+        "states {states}\nstart {start}\ngoal {goal}\n{cuts}estimates{estimates}\norders {orders}\n"
+    )
 }
 
 // What carve prints for a text: what the text holds, or its fault. Only memory can fail.
@@ -133,7 +106,8 @@ pub fn answer(heap: Global, text: &[u8]) -> Result<String, AllocError>
 {
     match read(heap, text) {
         Ok(document) => list(heap, &document),
-        Err(error) => complaint(heap, error),
+        Err(ReadError::AtFault(fault)) => format!(in heap; "{fault}\n"),
+        Err(ReadError::NoMemory(error)) => Err(error),
     }
 }
 

@@ -1,7 +1,9 @@
-use Rattle.std.proofs.Common.{◌≡◌, length, vec_items, string_bytes}
+use Rattle.std.proofs.Common.{◌≡◌, ◌++◌, ◌∷◌, [], length, vec_items, string_bytes, Err, subst}
 use Rattle.std.proofs.lemmas.Result.{IfOk-weaker}
+use Rattle.text.specs.FaultText.{fault_text}
 use Rattle.reader.specs.Documents.{rows_of}
-use Rattle.report.specs.Printed.{listing, Complains, Prints}
+use Rattle.reader.specs.Verdict.{Answers}
+use Rattle.report.specs.Printed.{listing, Prints}
 use Rattle.report.proofs.Answered.{accepted_printed, refused_printed, accepted_shape}
 use Rattle.report.proofs.answer.Goals as goal
 
@@ -15,8 +17,8 @@ returns-in-Ok c =
     (λ s e. accepted_printed c.args.text.now c.in-Ok.document (string_bytes s) c.in-Ok.ensures.verdict e)
     c.list.ensures
 
-pub returns-in-Err : goal.returns-in-Err
-returns-in-Err c =
-    IfOk-weaker c.complaint.result (λ s. Complains c.in-Err.error (string_bytes s)) (λ s. Prints c.args.text.now (string_bytes s))
-    (λ s e. refused_printed c.args.text.now c.in-Err.error (string_bytes s) c.in-Err.ensures.verdict e)
-    c.complaint.ensures
+pub returns-in-Err-AtFault : goal.returns-in-Err-AtFault
+returns-in-Err-AtFault c =
+    IfOk-weaker c.format.result (λ s. string_bytes s ≡ fault_text c.in-Err-AtFault.fault ++ 10 ∷ []) (λ s. Prints c.args.text.now (string_bytes s))
+    (λ s e. refused_printed c.args.text.now c.in-Err-AtFault.fault (string_bytes s) (subst (λ e. Answers c.args.text.now (Err e)) c.in-Err-AtFault.field-0-is c.in-Err-AtFault.ensures.verdict) e)
+    c.format.ensures.ok

@@ -11,7 +11,7 @@ const ENOUGH_BYTES: u64 = 60_001;
 fn run(rt: &HostRuntime) -> anyhow::Result<()> {
     let mut text = Vec::new(rt.alloc());
     rt.stdin().take(ENOUGH_BYTES).read_to_end(&mut text)?;
-    let out = answer(rt.alloc(), text.as_slice())?;
+    let out = answer(rt.alloc(), &text)?;
     print!(rt; "{out}")?;
     Ok(())
 }

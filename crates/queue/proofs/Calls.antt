@@ -1,23 +1,15 @@
--- What put, take and strike leave. Assumes nothing.
-use Rattle.std.proofs.Common.{◌≡◌, ℕ, ◌+◌, ◌-◌, ◌<◌, ◌≤◌, Bool, List, [], ◌∷◌, ◌++◌, length, get_or, take, drop, set, sym, refl, ap, ap₂, ◌∙◌, subst, arith, drop-set-lt, length-take-le, get_or-take, take-append-drop}
+-- What take and strike leave. Assumes nothing.
+use Rattle.std.proofs.Common.{◌≡◌, ℕ, ◌+◌, ◌-◌, ◌<◌, ◌≤◌, Bool, List, [], ◌∷◌, ◌++◌, length, get_or, take, drop, set, sym, ap, ap₂, ◌∙◌, subst, arith, drop-set-lt, length-take-le, get_or-take, take-append-drop}
 use lib.Seq.{take-set-lt}
 use Rattle.std.proofs.Math.Seq.{take-append_seam, drop-append_seam}
-use Rattle.std.proofs.lemmas.List.{get_or_append_left, get_or_read, take_more, take_more_set}
+use Rattle.std.proofs.lemmas.List.{get_or_append_left, get_or_read, take_more}
 use Rattle.std.proofs.lemmas.List.Edits.{swap_is, swapped_from_swap, length-swap}
-use Rattle.std.proofs.lemmas.List.Sorted.{IsPermutation-refl, IsPermutation-swap, IsPermutation-append_left, length_permutation}
+use Rattle.std.proofs.lemmas.List.Sorted.{IsPermutation-swap, IsPermutation-append_left, length_permutation}
 use Rattle.std.specs.List.{swap}
 use Rattle.std.specs.List.Sorted.{IsPermutation}
-use Rattle.queue.specs.Held.{IsEarliest, Parts, Put, Taken, Struck}
+use Rattle.queue.specs.Held.{IsEarliest, Parts, Taken, Struck}
 
 module _ {R : Type 0} where
-  pub put_behind : (x : R) (row : List R) (n : ℕ) → n < length row → Put x row n (set row n x) (n + 1)
-  put_behind x row n lt = record {
-    room = lt;
-    more = refl;
-    held = subst (λ (l : List R). IsPermutation l (take n row ++ x ∷ [])) (sym (take_more_set row n x lt)) (IsPermutation-refl (take n row ++ x ∷ []));
-    rest = drop-set-lt (n + 1) row n x (omega arith);
-  }
-
   -- the earliest one, at b, was exchanged with the last held one, and x, its state told, was read at the last place
   pub taken_out : (state : R → ℕ) (precedes : R → R → Bool) (s : ℕ) (xs ys : List R) (n b : ℕ) (x : R) → 0 < n → n ≤ length xs
       → IsEarliest precedes (take n xs) b → ys ≡ swap xs b (n - 1) → x ≡ get_or ys (n - 1) x → s ≡ state x

@@ -5,12 +5,6 @@ use Rattle.queue.proofs.row_queue.part.Goals as goal
 pub loop-i-init : goal.loop-i-init
 loop-i-init g c = parting_none _ _ _
 
-pub overflow_sub-stay : goal.overflow_sub-stay
-overflow_sub-stay g c = omega (arith, c.loop-i.invariant.low)
-
-pub swap-requires-clause-b_in_bounds : goal.swap-requires-clause-b_in_bounds
-swap-requires-clause-b_in_bounds g c = omega (arith, c.loop-i.invariant.low, c.loop-i.invariant.high)
-
 pub loop-i-preserved-then-state-struck : goal.loop-i-preserved-then-state-struck
 loop-i-preserved-then-state-struck g c =
     parting_goes _ _ _ _ _ _ _ _ c.loop-i.invariant (omega arith) c.loop-i.auto.held c.index-held-i.is

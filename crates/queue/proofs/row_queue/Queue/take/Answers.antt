@@ -1,11 +1,7 @@
 use Rattle.std.proofs.Common.{length-take-le, take, ap, ◌∙◌, sym, arith, rules}
-use Rattle.std.proofs.lemmas.Result.{err_from_is_err_and}
 use Rattle.queue.specs.Held.{IsEarliest}
 use Rattle.queue.proofs.Calls.{taken_out}
 use Rattle.queue.proofs.row_queue.Queue.take.Goals as goal
-
-pub returns-in_err-best-clause-answer : goal.returns-in_err-best-clause-answer
-returns-in_err-best-clause-answer g c = let p = err_from_is_err_and c.from_residual.result c.from_residual.ensures.1 in rw (p.1, p.2) (search rules)
 
 pub returns-clause-answer : goal.returns-clause-answer
 returns-clause-answer g c =

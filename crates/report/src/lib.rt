@@ -60,9 +60,9 @@ impl fmt::Display for Cuts<'_> {
     ghost output = { λ c. Some (all_cuts (rows_in c.rows)) };
 
     fn fmt<W: fmt::Write>(&self, f: &mut fmt::Formatter<W>) -> fmt::Result {
+        // by state numbers, since the lines print them
         for state in 0..self.rows.estimates.len() {
-            let cuts = self.of_state(state);
-            write!(f, "{cuts}")?;
+            write!(f, "{}", self.of_state(state))?;
         }
         Ok(())
     }

@@ -1,9 +1,9 @@
 -- Two lasts that have come the same way tell the same.
-use Rattle.std.proofs.Common.{◌≡◌, ℕ, List, length, take, Ok, Err, Option, Result, sym, refl, ap, ◌∙◌, subst, arith}
+use Rattle.std.proofs.Common.{◌≡◌, ℕ, List, length, take, Ok, Result, sym, ap, ◌∙◌, subst}
 use Rattle.course.specs.declared.refusal.Refusal.{Refusal}
 use Rattle.course.specs.Blanks.{Meaning, Lawful}
 use Rattle.course.specs.Machine.{State, Order, LawfulRanks}
-use Rattle.course.specs.Calls.{Answer, shown}
+use Rattle.course.specs.Calls.{shown}
 use Rattle.course.specs.Promises.{Agrees}
 use Rattle.course.proofs.Agree.{lives_agree}
 use Rattle.planner.specs.declared.last.show.Shown.{Shown}

@@ -1,5 +1,5 @@
 -- The choice of a state, by a queue of the focal set's ranks.
-use Rattle.std.proofs.Common.{◌≡◌, ℕ, ◌+◌, ◌<◌, ◌≤◌, Bool, true, List, length, Result, sym, refl, ap, ◌∙◌, subst, arith}
+use Rattle.std.proofs.Common.{◌≡◌, ℕ, ◌+◌, ◌<◌, ◌≤◌, Bool, List, length, Result, sym, ap, ◌∙◌, subst}
 use Rattle.course.specs.declared.refusal.Refusal.{Refusal}
 use Rattle.queue.specs.Held.{Taken}
 use Rattle.wish.specs.Wished.{order_of}
@@ -8,7 +8,7 @@ use Rattle.course.specs.Blanks.{Meaning}
 use Rattle.course.specs.Machine.{State, numbers, Focal, Chosen}
 use Rattle.planner.specs.Scans.{Inside}
 use Rattle.planner.proofs.Scans.{live_one}
-use Rattle.planner.proofs.Gathers.{PutAnswered, Gathered, FirstWanted, gathered_more, gathered_takes, gathered_empty}
+use Rattle.planner.proofs.Gathers.{PutAnswered, Gathered, gathered_more, gathered_takes, gathered_empty}
 
 module _ {R : Type 0} (m : Meaning) (s : State) (f : ℕ) (rank : Numbers → R) where
   -- The first n of the row are the ranks of the focal states below i.

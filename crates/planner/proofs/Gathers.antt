@@ -1,6 +1,7 @@
 -- A queue that gathers a rank for each wanted state of a scan, and what is then taken from it.
-use Rattle.std.proofs.Common.{◌≡◌, ℕ, ◌+◌, ◌<◌, ◌≤◌, Bool, true, false, ◌⊎◌, List, [], ◌∷◌, ◌++◌, length, get_or, take, drop, Ok, Err, Result, sym, refl, ap, ◌∙◌, subst, inl, inr, arith, length-drop, MatchResult}
+use Rattle.std.proofs.Common.{◌≡◌, ℕ, ◌+◌, ◌<◌, ◌≤◌, Bool, true, false, List, [], ◌∷◌, ◌++◌, length, take, Ok, Err, Result, Option, MatchOption, sym, ap, ◌∙◌, subst, inl, inr, arith, length-drop, MatchResult}
 use Rattle.std.specs.List.{AllByRecursion}
+use Rattle.std.specs.Result.{result_ok}
 use Rattle.std.proofs.lemmas.List.{get_or-take, length-take-le}
 use Rattle.std.proofs.ByRecursion.{All-from_get_or, All-push, all_shuffled}
 use Rattle.std.proofs.lemmas.List.Sorted.{IsPermutation-sym}
@@ -12,6 +13,11 @@ use Rattle.queue.specs.Held.{Put, Unchanged, Taken}
 -- What a put answers.
 abbrev pub PutAnswered : {R : Type 0} → R → List R → ℕ → List R → ℕ → Result (Unit {0}) Refusal → Type 0
 PutAnswered x row n row' n' a = MatchResult a (λ _. Put x row n row' n') (λ e. (number_of e ≡ 39) × (n ≡ length row) × Unchanged row n row' n')
+
+-- What a take answers, as an option.
+pub taken_ok : {T E N : Type 0} {P S : T → Type 0} {Q : E → Type 0} {o : Option T} (r : Result T E) → o ≡ result_ok r → MatchResult r P Q → ((x : T) → P x → S x) → ((e : E) → Q e → N) → MatchOption o N S
+taken_ok {N = N} {S = S} (Ok x) e taken some none = subst (λ o. MatchOption o N S) (sym e) (some x taken)
+taken_ok {N = N} {S = S} (Err x) e empty some none = subst (λ o. MatchOption o N S) (sym e) (none x empty)
 
 -- A rank that was put for a wanted state.
 pub record Made {R : Type 0} (Wanted : ℕ → ℕ → Type 0) (made : ℕ → ℕ → R) (x : R) : Type 0 where

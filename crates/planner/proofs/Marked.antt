@@ -1,9 +1,8 @@
 -- What a write to the bench makes of the marks.
-use Rattle.std.proofs.Common.{◌≡◌, ℕ, ◌<◌, ◌≤◌, cond, eqb, ◌⊎◌, List, [], length, get_or, set, replicate, Some, None, sym, refl, ap, ◌∙◌, subst, inl, inr, arith}
+use Rattle.std.proofs.Common.{◌≡◌, ℕ, ◌<◌, List, [], length, set, replicate, None, sym, ap, ◌∙◌, subst, inl, inr, arith}
 use mathlib.Core.Path.{fun_ext}
 use Rattle.std.proofs.lemmas.List.{get_or-set_same, get_or-set_other, get_or-replicate, get_or_past, length-replicate}
 use Rattle.std.proofs.lemmas.Bool.{cases_eq, cases_lt}
-use Rattle.course.specs.declared.machine.Reach.{Reach}
 use Rattle.course.specs.declared.machine.Mark.{Mark}
 use Rattle.course.specs.declared.machine.Mark.TheVariants.{Unseen, Open}
 use Rattle.course.specs.Blanks.{Meaning, Lawful}

@@ -1,10 +1,10 @@
 -- A move, from what its steps ensure.
-use Rattle.std.proofs.Common.{◌≡◌, ℕ, ◌+◌, ◌*◌, ◌<◌, ◌≤◌, List, [], Some, None, Option, sym, refl, ap, ◌∙◌, subst, mul-le-mul_right, mul_comm, mul-le-mul_left, arith}
+use Rattle.std.proofs.Common.{◌≡◌, ℕ, ◌+◌, ◌*◌, ◌≤◌, Some, None, Option, sym, ap, subst, mul-le-mul_right, mul_comm}
 use Rattle.course.specs.declared.machine.Reach.{Reach}
 use Rattle.course.specs.declared.machine.Mark.{Mark}
 use Rattle.course.specs.declared.machine.Mark.TheVariants.{Open, Closed}
 use Rattle.course.specs.Blanks.{Meaning, Lawful}
-use Rattle.course.specs.Machine.{State, Standing, Order, limit, marked, counted, Live, Least, NoLive, Focal, Chosen, Cuts, Raised, to_least, to_limit, raised_to, Move}
+use Rattle.course.specs.Machine.{State, Standing, Order, marked, counted, Live, Least, Focal, Chosen, Cuts, Raised, to_least, to_limit, raised_to, Move}
 use Rattle.course.proofs.Marks.{put}
 use Rattle.course.proofs.Cuts.{move_from}
 use Rattle.course.proofs.Moves.{During, closes, cuts_keep}
@@ -13,8 +13,8 @@ use Rattle.planner.specs.Scans.{Inside, FoundLeast}
 use Rattle.planner.proofs.Marked.{marks_inside}
 
 -- The state after the chosen one is closed and the move counted.
-pub shuts_as : (s : State) (n : ℕ) (x : Mark) {mark : ℕ → Mark} {standing : Option Standing} → mark ≡ put s.mark n x → standing ≡ s.standing → ◌≡◌ {A = State} (record { mark = mark; standing = standing; ceiling = s.ceiling; p = s.p; q = s.q; floor = s.floor; moves = s.moves + 1 }) (counted (marked s n x))
-shuts_as s n x e f i = record { mark = e i; standing = f i; ceiling = s.ceiling; p = s.p; q = s.q; floor = s.floor; moves = s.moves + 1 }
+pub shuts_as : (s : State) (n : ℕ) (x : Mark) {mark : ℕ → Mark} {standing : Option Standing} {moves : ℕ} → mark ≡ put s.mark n x → standing ≡ s.standing → moves ≡ s.moves + 1 → ◌≡◌ {A = State} (record { mark = mark; standing = standing; ceiling = s.ceiling; p = s.p; q = s.q; floor = s.floor; moves = moves }) (counted (marked s n x))
+shuts_as s n x e f h i = record { mark = e i; standing = f i; ceiling = s.ceiling; p = s.p; q = s.q; floor = s.floor; moves = h i }
 
 -- The state of the least sum is in the focal set.
 pub least_focal : {m : Meaning} {s : State} {f : ℕ} → s.q ≤ s.p → (least : Least m s f) → Focal m s f least.at least.at_g

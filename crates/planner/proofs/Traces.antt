@@ -1,11 +1,11 @@
 -- A chain followed back, state by state, and written from its end.
-use Rattle.std.proofs.Common.{◌≡◌, ℕ, ◌+◌, ◌-◌, ◌<◌, ◌≤◌, ◌⊎◌, List, [], ◌∷◌, ◌++◌, length, take, drop, set, Some, None, Option, sym, refl, ap, ◌∙◌, subst, inl, inr, append_assoc, append-nil, arith}
+use Rattle.std.proofs.Common.{◌≡◌, ℕ, ◌+◌, ◌<◌, ◌≤◌, List, [], ◌∷◌, ◌++◌, length, take, drop, set, Some, None, sym, refl, ap, ◌∙◌, subst, inl, inr, append_assoc, append-nil, arith}
 use lib.Seq.{take-set-lt}
-use Rattle.std.proofs.lemmas.List.{length_push, length-take, length-take-le, drop-set, drop_all, length-set}
+use Rattle.std.proofs.lemmas.List.{length_push, length-take, length-take-le, drop-set, drop_all}
 use Rattle.course.specs.declared.machine.Reach.{Reach}
 use Rattle.course.specs.declared.machine.Mark.{Mark}
 use Rattle.course.specs.Machine.{Seen, Chain, root, link}
-use Rattle.course.proofs.Chains.{Before, chain_link, some_none}
+use Rattle.course.proofs.Chains.{Before, some_none}
 use Rattle.planner.specs.Lasts.{origin_of}
 
 -- What stands there once at is written at j.

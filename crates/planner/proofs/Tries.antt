@@ -1,12 +1,12 @@
 -- One place tried, by what the blank answers of it.
-use Rattle.std.proofs.Common.{◌≡◌, ℕ, ◌+◌, ◌<◌, ◌≤◌, List, [], ◌∷◌, ◌++◌, length, Some, None, Option, sym, refl, ap, ◌∙◌, subst, arith}
+use Rattle.std.proofs.Common.{◌≡◌, ℕ, ◌+◌, ◌<◌, ◌≤◌, List, [], ◌∷◌, ◌++◌, length, Some, None, Option, sym, subst, arith}
 use Rattle.std.proofs.lemmas.List.{length_push}
 use Rattle.course.specs.declared.machine.Mark.{Mark}
 use Rattle.course.specs.declared.machine.Mark.TheVariants.{Open}
-use Rattle.course.specs.Blanks.{join, Meaning, Leads, Walk, Lawful}
+use Rattle.course.specs.Blanks.{join, Meaning, Walk, Lawful}
 use Rattle.course.specs.Machine.{State, Standing, limit, sum, marked, stands, Chain, News, Tried, empty, dear, arrives, opens, keeps}
 use Rattle.course.proofs.Marks.{put, Within}
-use Rattle.course.proofs.SoundMarks.{SoundMarks, Walked, walked}
+use Rattle.course.proofs.SoundMarks.{SoundMarks, walked}
 use Rattle.course.proofs.Lengths.{route_short}
 
 -- A state with another mark.

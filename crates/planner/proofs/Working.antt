@@ -1,10 +1,10 @@
 -- A work, look by look and move by move.
-use Rattle.std.proofs.Common.{◌≡◌, ℕ, zero, suc, ◌+◌, ◌-◌, ◌<◌, ◌≤◌, List, Option, sym, refl, ap, ◌∙◌, subst, add-one, arith, MatchOption}
+use Rattle.std.proofs.Common.{◌≡◌, ℕ, ◌+◌, ◌-◌, ◌<◌, ◌≤◌, List, Some, None, Option, unwrap_or, sym, subst, add-one, arith, MatchOption}
 use Rattle.course.specs.declared.machine.Word.{Word}
 use Rattle.course.specs.declared.machine.Word.TheVariants.{Done as done, Met as met, Spent as spent}
 use Rattle.course.specs.Blanks.{Meaning, Lawful}
 use Rattle.course.specs.Machine.{State, Order, limit, Move}
-use Rattle.course.specs.Calls.{Call, Answer, Finished, Met, Works, is_done, is_met, is_spent, Does, works, Life}
+use Rattle.course.specs.Calls.{Call, Answer, Finished, Met, Works, is_done, is_met, is_spent, works, Life}
 use Rattle.course.proofs.Floor.{Held, moved_held}
 use Rattle.course.proofs.Bounded.{PaidBy, paid_move, few_moves}
 use Rattle.course.proofs.Lives.{life_held, life_paid}
@@ -32,10 +32,10 @@ working_low y on = lower y.floor (limit y) on.0
     lower a b no_more = omega arith
 
 -- What a move, asked for at a state, ensures, where least is the least sum before it and after the one after it.
-abbrev pub Moves : Meaning → Order → ℕ → ℕ → State → Option ℕ → Option (Option ℕ) → State → Type 0
+abbrev pub Moves : Meaning → Order → ℕ → ℕ → State → Option ℕ → Option ℕ → State → Type 0
 Moves m ord costs row y least after z =
     Held m y → FoundLeast m y least → m.states ≤ costs → m.states ≤ row → y.moves < 4294967295 → y.floor < limit y
-    → MatchOption after ⊥ (λ next. Move m ord y z × FoundLeast m z next)
+    → Move m ord y z × FoundLeast m z after
 
 module _ {m : Meaning} {ord : Order} {s : State} {i : ℕ} {y : State} where
   -- One more.
@@ -51,7 +51,7 @@ module _ {m : Meaning} {ord : Order} {s : State} {i : ℕ} {y : State} where
   working_count law now = omega (arith, few_moves m y now.paid, law.states_most)
 
   -- It is made.
-  pub working_moves : {costs row : ℕ} (least : Option ℕ) (after : Option (Option ℕ)) (z : State) → Lawful m → m.states ≤ costs → m.states ≤ row → (Finished y → ⊥) × (Met y → ⊥) → Moves m ord costs row y least after z → Working m ord s i y → FoundLeast m y least → MatchOption after ⊥ (λ next. Move m ord y z × FoundLeast m z next)
+  pub working_moves : {costs row : ℕ} (least : Option ℕ) (after : Option ℕ) (z : State) → Lawful m → m.states ≤ costs → m.states ≤ row → (Finished y → ⊥) × (Met y → ⊥) → Moves m ord costs row y least after z → Working m ord s i y → FoundLeast m y least → Move m ord y z × FoundLeast m z after
   working_moves least after z law cost_room room on moves now found = moves now.held found cost_room room (working_count law now) (working_low y on)
 
   -- A look tells it to stop.
@@ -65,6 +65,11 @@ module _ {m : Meaning} {ord : Order} {s : State} {i : ℕ} {y : State} where
   working_spent {b} all on now =
       let none : 0 ≡ b - i = omega arith in
       ran_stops now.ran (omega arith) (subst (λ (k : ℕ). Works m ord k y spent 0 y) none (is_spent on.0 on.1))
+
+  -- The word that the last look gives, or spent where it gives none.
+  pub working_ends : {b : ℕ} {word : Word} (seen : Option Word) → i ≡ b → unwrap_or seen spent ≡ word → MatchOption seen ((Finished y → ⊥) × (Met y → ⊥)) (λ w. Stops w y) → Working m ord s i y → Works m ord b s word i y
+  working_ends {b} None all e on now = subst (λ (w : Word). Works m ord b s w i y) e (working_spent all on now)
+  working_ends {b} (Some w) all e stops now = subst (λ (x : Word). Works m ord b s x i y) e (working_stops w (omega arith) stops now)
 
 -- The same at an equal count.
 pub working_at : {m : Meaning} {ord : Order} {s y : State} {i j : ℕ} → i ≡ j → Working m ord s i y → Working m ord s j y

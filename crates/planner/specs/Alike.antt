@@ -1,11 +1,9 @@
 -- Two lasts side by side: one over the blank m under the wish a, the other over n under b.
-use Rattle.std.specs.Prelude.{◌≡◌, ℕ, List, take, Ok, Result}
-use Rattle.course.specs.declared.refusal.Refusal.{Refusal}
+use Rattle.std.specs.Prelude.{◌≡◌, ℕ, List, take, Ok}
 use Rattle.course.specs.Blanks.{Meaning, SameMeaning}
 use Rattle.course.specs.Machine.{State, Order, EqualWishes}
 use Rattle.course.specs.Calls.{Call, Answer, Life}
 use Rattle.course.specs.Promises.{moves_in, settings_in}
-use Rattle.planner.specs.declared.last.show.Shown.{Shown}
 use Rattle.planner.specs.declared.last.route.Told.{Told}
 use Rattle.planner.specs.declared.alike.Compared.{Compared}
 

@@ -1,5 +1,6 @@
 -- What a clamped last holds, as a state of the machine.
 use Rattle.std.specs.Prelude.{ℕ, List, take, Some, None, vec_items, Option, slice_index_or}
+use Rattle.course.specs.declared.machine.Reach.{Reach}
 use Rattle.course.specs.declared.machine.Mark.{Mark}
 use Rattle.course.specs.declared.machine.Mark.TheVariants.{Unseen, Open, Closed}
 use Rattle.course.specs.Machine.{Standing, State}
@@ -12,6 +13,12 @@ use Rattle.planner.specs.declared.last.Last.{Last}
 -- The mark of each state, as the bench has it.
 abbrev pub marks_of : List Mark → ℕ → Mark
 marks_of marks u = slice_index_or marks u Unseen
+
+-- How a marked state was reached, where it is seen.
+abbrev pub reach_of : Mark → Option Reach
+reach_of Unseen = None
+reach_of (Open r) = Some r
+reach_of (Closed r) = Some r
 
 -- The state that a marked state was reached from.
 abbrev pub origin_of : Mark → Option ℕ

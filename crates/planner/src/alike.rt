@@ -10,7 +10,7 @@ use course::Refusal;
 use wish::Wish;
 
 // What each of two lasts shows, and what it answers when its route is asked for.
-#[derive(Clone, Copy)]
+#[derive(Clone, Copy, Debug, PartialEq, Eq)]
 pub struct Compared {
     pub first: Shown,
     pub second: Shown,

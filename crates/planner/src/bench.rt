@@ -20,11 +20,11 @@ pub struct Bench {
 
 impl Bench {
     // An idle bench. Only memory can fail.
-    pub fn new(heap: Global) -> Result<Bench, AllocError>
+    pub fn new(alloc: Global) -> Result<Bench, AllocError>
         ensures { IfOk result (λ b. Idle b.marks.items b.path.items) }
     {
-        let marks = vec![in heap; Mark::Unseen; STATES]?;
-        let path = vec![in heap; 0u32; STATES]?;
+        let marks = vec![in alloc; Mark::Unseen; STATES]?;
+        let path = vec![in alloc; 0u32; STATES]?;
         Ok(Bench { marks, path })
     }
 
@@ -32,10 +32,10 @@ impl Bench {
     pub(crate) fn mark(&self, state: u32) -> Mark
         ensures { result ≡ slice_index_or self.now.marks.items state Unseen }
     {
-        if state as usize >= STATES {
-            return Mark::Unseen;
-        }
-        self.marks[state as usize]
+        self.marks
+            .get(state as usize)
+            .copied()
+            .unwrap_or(Mark::Unseen)
     }
 
     // Marks a state, where the bench has it.
@@ -43,19 +43,16 @@ impl Bench {
         ensures marks { self.new.marks.items ≡ slice_set self.old.marks.items state mark }
         ensures path { self.new.path ≡ self.old.path }
     {
-        if (state as usize) < STATES {
-            self.marks[state as usize] = mark;
+        if let Some(place) = self.marks.get_mut(state as usize) {
+            *place = mark;
         }
     }
 
-    // A state of the path: past the bench it is 0.
-    pub(crate) fn step(&self, i: u32) -> u32
-        ensures { result ≡ slice_index self.now.path.items i }
+    // The path, all 1,024 states of it.
+    pub(crate) fn path(&self) -> &[u32]
+        ensures { result.now ≡ self.now.path.items }
     {
-        if i as usize >= STATES {
-            return 0;
-        }
-        self.path[i as usize]
+        &self.path
     }
 
     // Writes a state of the path, where the bench has it.
@@ -63,8 +60,8 @@ impl Bench {
         ensures path { self.new.path.items ≡ slice_set self.old.path.items i state }
         ensures marks { self.new.marks ≡ self.old.marks }
     {
-        if (i as usize) < STATES {
-            self.path[i as usize] = state;
+        if let Some(place) = self.path.get_mut(i as usize) {
+            *place = state;
         }
     }
 

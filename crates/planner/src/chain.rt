@@ -1,21 +1,27 @@
 // The chain of a state: itself, the state it was reached from, and so on back. It is written into the bench's path.
 ghost use Rattle.std.specs.Prelude.{◌≡◌, ℕ, ◌+◌, ◌<◌, ◌≤◌, true, false, List, length, take};
 ghost use Rattle.course.specs.Machine.{Chain, News};
-ghost use Rattle.planner.specs.Lasts.{marks_of, origin_of};
+ghost use Rattle.planner.specs.Lasts.{marks_of, reach_of, origin_of};
 
 use crate::bench::Bench;
-use course::Mark;
+use course::{Mark, Reach};
 
 impl Bench {
+    // How a state was reached, where it is seen.
+    fn reach(&self, state: u32) -> Option<Reach>
+        ensures { result ≡ reach_of (marks_of self.now.marks.items state) }
+    {
+        match self.mark(state) {
+            Mark::Unseen => None,
+            Mark::Open(reach) | Mark::Closed(reach) => Some(reach),
+        }
+    }
+
     // The state that a state was reached from.
     fn origin(&self, state: u32) -> Option<u32>
         ensures { result ≡ origin_of (marks_of self.now.marks.items state) }
     {
-        match self.mark(state) {
-            Mark::Unseen => None,
-            Mark::Open(reach) => reach.from,
-            Mark::Closed(reach) => reach.from,
-        }
+        self.reach(state)?.from
     }
 
     // Whether it is news that v is reached at cost t.
@@ -23,11 +29,7 @@ impl Bench {
         ensures yes { result ≡ true → News (marks_of self.now.marks.items v) t }
         ensures no { result ≡ false → News (marks_of self.now.marks.items v) t → ⊥ }
     {
-        match self.mark(v) {
-            Mark::Unseen => true,
-            Mark::Open(reach) => t < reach.g,
-            Mark::Closed(reach) => t < reach.g,
-        }
+        self.reach(v).is_none_or(|reach| t < reach.g)
     }
 
     // How many states the chain that ends at n has.
@@ -52,9 +54,7 @@ impl Bench {
         ensures marks { self.new.marks ≡ self.old.marks }
     {
         let mut at = n;
-        let mut i = len;
-        while i > 0 {
-            i -= 1;
+        for i in (0..len).rev() {
             self.set_step(i, at);
             match self.origin(at) {
                 Some(u) => at = u,

@@ -19,7 +19,7 @@ pub use show::Shown;
 pub use work::Worked;
 
 // The standing route: its cost, and how many states of the bench's path are its own.
-#[derive(Clone, Copy)]
+#[derive(Clone, Copy, Debug, PartialEq, Eq)]
 pub(crate) struct Incumbent {
     cost: u32,
     len: u32,

@@ -19,22 +19,17 @@ impl<B: Blank, W: Wish> Last<B, W> {
             (λ x. Focal (B.meaning self.now.blank) (state_of self.now) least u x.g
             × (x ≡ numbers (B.meaning self.now.blank) (state_of self.now) least u x.g)) }
     {
-        let Some((g, h)) = self.live(u) else {
-            return None;
-        };
-        if (g + h) as u64 * self.q as u64 <= self.p as u64 * least as u64 {
-            Some(Numbers {
-                state: u,
-                g,
-                h,
-                limit: self.limit(),
-                p: self.p,
-                q: self.q,
-                least,
-            })
-        } else {
-            None
-        }
+        let (g, h) = self.live(u)?;
+        let near = u64::from(g + h) * u64::from(self.q) <= u64::from(self.p) * u64::from(least);
+        near.then(|| Numbers {
+            state: u,
+            g,
+            h,
+            limit: self.limit(),
+            p: self.p,
+            q: self.q,
+            least,
+        })
     }
 
     // The state of the focal set whose rank is first.
@@ -51,9 +46,6 @@ impl<B: Blank, W: Wish> Last<B, W> {
                 let _ = queue.put(self.wish.rank(&told));
             }
         }
-        match queue.take() {
-            Ok(state) => Some(state),
-            Err(_) => None,
-        }
+        queue.take().ok()
     }
 }

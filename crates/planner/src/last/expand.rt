@@ -18,14 +18,10 @@ impl<B: Blank, W: Wish> Last<B, W> {
         ensures low { result ≤ 1000 }
         ensures is { (c : ℕ) → Leads (B.meaning self.now.blank) u v c → result ≡ c }
     {
-        for place in 0..self.blank.places(u) {
-            if let Some((to, cost)) = self.blank.cut(u, place) {
-                if to == v {
-                    return cost;
-                }
-            }
-        }
-        0
+        (0..self.blank.places(u))
+            .filter_map(|place| self.blank.cut(u, place))
+            .find(|&(to, _)| to == v)
+            .map_or(0, |(_, cost)| cost)
     }
 
     // What the walk by the first len states of the path costs.
@@ -34,12 +30,10 @@ impl<B: Blank, W: Wish> Last<B, W> {
         ensures low { result ≤ 1024000 }
         ensures is { (s w e : ℕ) → Walk (B.meaning self.now.blank) s w (take len self.now.bench.path.items) e → result ≡ e }
     {
+        let path = &self.bench.path()[..len as usize];
         let mut cost = 0;
-        let mut at = self.bench.step(0);
-        for i in 0..len - 1 {
-            let next = self.bench.step(i + 1);
-            cost += self.cut_cost(at, next);
-            at = next;
+        for pair in path.windows(2) {
+            cost += self.cut_cost(pair[0], pair[1]);
         }
         cost
     }
@@ -74,8 +68,8 @@ impl<B: Blank, W: Wish> Last<B, W> {
         let Some((v, c)) = self.blank.cut(n, place) else {
             return;
         };
-        let sum = g as u64 + c as u64 + self.blank.estimate(v) as u64;
-        if sum >= self.limit() as u64 {
+        let sum = u64::from(g) + u64::from(c) + u64::from(self.blank.estimate(v));
+        if sum >= u64::from(self.limit()) {
             return;
         }
         if v == self.blank.goal() {

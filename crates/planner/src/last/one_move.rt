@@ -14,43 +14,35 @@ use rank::CostRank;
 use wish::Wish;
 
 impl<B: Blank, W: Wish> Last<B, W> {
-    // One move from the least sum, if there is one; it answers the least sum after it. No move is made where there is no state to choose, or
-    // where no more moves can be counted; no life leads there.
+    // One move from the least sum; it answers the least sum after it. Where there is no state to choose, or no more moves can be counted, no
+    // move is made: no life leads there.
     pub(crate) fn one_move(
         &mut self,
         least: Option<u32>,
         costs: &mut [CostRank],
         wishes: &mut [W::Rank],
-    ) -> Option<Option<u32>>
+    ) -> Option<u32>
         ensures moves { Held (B.meaning self.old.blank) (state_of self.old)
             → FoundLeast (B.meaning self.old.blank) (state_of self.old) least
             → (B.meaning self.old.blank).states ≤ length costs.old
             → (B.meaning self.old.blank).states ≤ length wishes.old
             → self.old.moves < 4294967295
             → self.old.floor < state_limit (state_of self.old)
-            → MatchOption result ⊥ (λ next. Move (B.meaning self.old.blank) (order_of (W.ranked self.old.wish) W.Rank.Rank.precedes) (state_of self.old) (state_of self.new)
-            × FoundLeast (B.meaning self.old.blank) (state_of self.new) next) }
+            → Move (B.meaning self.old.blank) (order_of (W.ranked self.old.wish) W.Rank.Rank.precedes) (state_of self.old) (state_of self.new)
+            × FoundLeast (B.meaning self.old.blank) (state_of self.new) result }
         ensures blank { self.new.blank ≡ self.old.blank }
         ensures wish { self.new.wish ≡ self.old.wish }
     {
-        let Some(least) = least else {
-            return None;
-        };
-        let Some(n) = self.choose(wishes, least) else {
-            return None;
-        };
+        let n = self.choose(wishes, least?)?;
         let Mark::Open(reach) = self.bench.mark(n) else {
             return None;
         };
-        if self.moves == u32::MAX {
-            return None;
-        }
+        self.moves = self.moves.checked_add(1)?;
         self.bench.set_mark(n, Mark::Closed(reach));
-        self.moves += 1;
         self.expand(n, reach.g);
         let next = self.least_queued(costs);
         self.raise_to(next);
-        Some(next)
+        next
     }
 
     // The word by which a look tells a work to stop, if it does.
@@ -60,14 +52,10 @@ impl<B: Blank, W: Wish> Last<B, W> {
         if self.limit() <= self.floor {
             return Some(Word::Done);
         }
-        let Some(found) = self.standing else {
-            return None;
-        };
-        if found.cost <= self.ceiling
-            && found.cost as u64 * self.q as u64 <= self.p as u64 * self.floor as u64
-        {
-            return Some(Word::Met);
-        }
-        None
+        let found = self.standing?;
+        let met = found.cost <= self.ceiling
+            && u64::from(found.cost) * u64::from(self.q)
+                <= u64::from(self.p) * u64::from(self.floor);
+        met.then_some(Word::Met)
     }
 }

@@ -9,7 +9,7 @@ use course::Refusal;
 use wish::Wish;
 
 // How many states were written, what the route costs, and the floor.
-#[derive(Clone, Copy)]
+#[derive(Clone, Copy, Debug, PartialEq, Eq)]
 pub struct Told {
     pub len: u32,
     pub cost: u32,
@@ -21,15 +21,12 @@ impl<B: Blank, W: Wish> Last<B, W> {
     pub(crate) fn route(&self, row: &mut [u32]) -> Result<Told, Refusal>
         ensures { RouteAnswered (B.meaning self.now.blank) (order_of (W.ranked self.now.wish) W.Rank.Rank.precedes) (state_of self.now) row.old result row.new }
     {
-        let Some(found) = self.standing else {
-            return Err(Refusal::NoRoute);
-        };
-        if row.len() < found.len as usize {
+        let found = self.standing.ok_or(Refusal::NoRoute)?;
+        let path = &self.bench.path()[..found.len as usize];
+        if row.len() < path.len() {
             return Err(Refusal::RowTooShort);
         }
-        for i in 0..found.len {
-            row[i as usize] = self.bench.step(i);
-        }
+        row[..path.len()].copy_from_slice(path);
         Ok(Told {
             len: found.len,
             cost: found.cost,

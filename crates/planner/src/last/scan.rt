@@ -1,6 +1,6 @@
 // What the marks say of one state, and of all: the live states, the least sum and the floor.
-ghost use Rattle.std.specs.Prelude.{◌≡◌, ℕ, ◌+◌, ◌<◌, ◌≤◌, min, length, MatchOption};
-ghost use Rattle.course.specs.Machine.{limit as state_limit, Live, Raised};
+ghost use Rattle.std.specs.Prelude.{◌≡◌, ℕ, ◌<◌, ◌≤◌, length, MatchOption};
+ghost use Rattle.course.specs.Machine.{limit as state_limit, sum, Live, Raised};
 ghost use Rattle.planner.specs.Lasts.{state_of};
 ghost use Rattle.planner.specs.Scans.{Inside, FoundLeast};
 
@@ -11,26 +11,13 @@ use queue::Queue;
 use rank::CostRank;
 use wish::Wish;
 
-// The lesser of two sums, where there is a first.
-fn lesser(first: Option<u32>, sum: u32) -> u32
-    ensures { MatchOption first (result ≡ sum) (λ f. result ≡ min f sum) }
-{
-    match first {
-        Some(f) => f.min(sum),
-        None => sum,
-    }
-}
-
 impl<B: Blank, W: Wish> Last<B, W> {
     // Only a route that costs less is still looked for.
     pub(crate) fn limit(&self) -> u32
         ensures { result ≡ state_limit (state_of self.now) }
     {
         let over = self.ceiling + 1;
-        match self.standing {
-            None => over,
-            Some(found) => over.min(found.cost),
-        }
+        self.standing.map_or(over, |found| over.min(found.cost))
     }
 
     // The cost at which u is live, and its estimate.
@@ -43,11 +30,18 @@ impl<B: Blank, W: Wish> Last<B, W> {
             return None;
         };
         let h = self.blank.estimate(u);
-        if reach.g as u64 + (h as u64) < self.limit() as u64 {
-            Some((reach.g, h))
-        } else {
-            None
-        }
+        let below = u64::from(reach.g) + u64::from(h) < u64::from(self.limit());
+        below.then_some((reach.g, h))
+    }
+
+    // The sum of u, where it is live.
+    fn sum(&self, u: u32) -> Option<u32>
+        ensures { MatchOption result
+            ((g : ℕ) → Live (B.meaning self.now.blank) (state_of self.now) u g → ⊥)
+            (λ f. (g : ℕ) × Live (B.meaning self.now.blank) (state_of self.now) u g × (f ≡ sum (B.meaning self.now.blank) u g)) }
+    {
+        let (g, h) = self.live(u)?;
+        Some(g + h)
     }
 
     // The least sum of the live states, by looking at each: clamp and ceiling are lent no row.
@@ -55,13 +49,7 @@ impl<B: Blank, W: Wish> Last<B, W> {
         ensures { Inside (B.meaning self.now.blank) (state_of self.now)
             → FoundLeast (B.meaning self.now.blank) (state_of self.now) result }
     {
-        let mut best = None;
-        for u in 0..self.blank.states() {
-            if let Some((g, h)) = self.live(u) {
-                best = Some(lesser(best, g + h));
-            }
-        }
-        best
+        (0..self.blank.states()).filter_map(|u| self.sum(u)).min()
     }
 
     // The least sum of the live states, by a queue of their cost ranks.
@@ -72,18 +60,14 @@ impl<B: Blank, W: Wish> Last<B, W> {
     {
         let mut queue = Queue::over(row);
         for u in 0..self.blank.states() {
-            if let Some((g, h)) = self.live(u) {
-                let sum = g as u64 + h as u64;
-                let _ = queue.put(CostRank { sum, state: u });
+            if let Some(sum) = self.sum(u) {
+                let _ = queue.put(CostRank {
+                    sum: u64::from(sum),
+                    state: u,
+                });
             }
         }
-        match queue.take() {
-            Ok(n) => match self.live(n) {
-                Some((g, h)) => Some(g + h),
-                None => None,
-            },
-            Err(_) => None,
-        }
+        self.sum(queue.take().ok()?)
     }
 
     // Raises the floor to the least sum, or to the limit where no state is live.
@@ -94,10 +78,7 @@ impl<B: Blank, W: Wish> Last<B, W> {
         ensures wish { self.new.wish ≡ self.old.wish }
     {
         let limit = self.limit();
-        let to = match least {
-            Some(least) => limit.min(least),
-            None => limit,
-        };
+        let to = least.unwrap_or(limit).min(limit);
         self.floor = self.floor.max(to);
     }
 

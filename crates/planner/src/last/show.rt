@@ -8,7 +8,7 @@ use blank::Blank;
 use wish::Wish;
 
 // The cost of the standing route or none, the floor, the moves since clamping, the ceiling and the ratio p/q.
-#[derive(Clone, Copy)]
+#[derive(Clone, Copy, Debug, PartialEq, Eq)]
 pub struct Shown {
     pub cost: Option<u32>,
     pub floor: u32,
@@ -23,12 +23,8 @@ impl<B: Blank, W: Wish> Last<B, W> {
     pub(crate) fn show(&self) -> Shown
         ensures { ShowAnswered (B.meaning self.now.blank) (order_of (W.ranked self.now.wish) W.Rank.Rank.precedes) (state_of self.now) result }
     {
-        let cost = match self.standing {
-            None => None,
-            Some(found) => Some(found.cost),
-        };
         Shown {
-            cost,
+            cost: self.standing.map(|found| found.cost),
             floor: self.floor,
             moves: self.moves,
             ceiling: self.ceiling,

@@ -45,20 +45,10 @@ impl<B: Blank, W: Wish> Last<B, W> {
             if let Some(word) = self.look() {
                 return Ok(Worked { word, moves });
             }
-            let Some(next) = self.one_move(least, costs, wishes) else {
-                return Ok(Worked {
-                    word: Word::Spent,
-                    moves,
-                });
-            };
-            least = next;
+            least = self.one_move(least, costs, wishes);
         }
-        let word = match self.look() {
-            Some(word) => word,
-            None => Word::Spent,
-        };
         Ok(Worked {
-            word,
+            word: self.look().unwrap_or(Word::Spent),
             moves: budget,
         })
     }

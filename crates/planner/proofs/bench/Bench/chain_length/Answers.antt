@@ -1,4 +1,4 @@
-use Rattle.std.proofs.Common.{◌≡◌, vec_items, sym, ◌∙◌, arith, rules}
+use Rattle.std.proofs.Common.{vec_items, sym, ◌∙◌, arith, rules}
 use Rattle.planner.specs.Lasts.{marks_of}
 use Rattle.planner.proofs.Traces.{back_first, back_more, back_all, back_few}
 use Rattle.planner.proofs.bench.Bench.chain_length.Goals as goal

@@ -1,4 +1,4 @@
-use Rattle.std.proofs.Common.{ℕ, ◌≤◌, List, length, vec_items}
+use Rattle.std.proofs.Common.{ℕ, List, length, vec_items}
 use Rattle.course.specs.Machine.{Chain}
 use Rattle.planner.specs.Lasts.{marks_of}
 use Rattle.planner.proofs.Traces.{Back}

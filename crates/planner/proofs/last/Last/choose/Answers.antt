@@ -1,7 +1,7 @@
-use Rattle.std.proofs.Common.{◌≡◌, ℕ, ◌+◌, ◌<◌, ◌≤◌, length, sym, refl, ap, ◌∙◌, subst, arith, rules}
+use Rattle.std.proofs.Common.{◌≡◌, ℕ, ◌+◌, ◌≤◌, length, sym, refl, ap, ◌∙◌, subst, arith}
 use Rattle.queue.specs.declared.row_queue.Queue.{Queue}
 use Rattle.planner.specs.Lasts.{state_of}
-use Rattle.planner.proofs.Gathers.{put_length, gathered_none, gathered_skip}
+use Rattle.planner.proofs.Gathers.{put_length, gathered_none, gathered_skip, taken_ok}
 use Rattle.planner.proofs.Chooses.{RanksBelow, choose_more, choose_first, choose_none}
 use Rattle.planner.proofs.last.Last.choose.Goals as goal
 use Rattle.planner.proofs.last.Last.choose.Goals.{in-Some, in_default}
@@ -25,8 +25,8 @@ loop-u-preserved g c =
       | in_default w ↦ subst P (sym w.queue-is) (c.loop-u.invariant.0, λ room. gathered_skip w.in_default.ensures (c.loop-u.invariant.1 room))
     ]
 
-pub returns-in-Ok : goal.returns-in-Ok
-returns-in-Ok g c inside room =
+pub returns : goal.returns
+returns g c inside room =
     let m = g.B.Blank.meaning c.args.self.now.blank in
     let s = state_of c.args.self.now in
     let w = c.args.self.now.wish in
@@ -34,14 +34,5 @@ returns-in-Ok g c inside room =
     let e : c.loop-u.u ≡ m.states = omega (arith, c.states-u-end.ensures) in
     let P : ℕ → Type 0 = λ i. RanksBelow m s c.args.least rank c.loop-u.queue.row.now c.loop-u.queue.len i in
     let long : m.states ≤ length c.over-queue.result.row.now = omega (arith, ap length c.over-queue.ensures.whole) in
-    choose_first m s c.args.least rank (g.met.W.Wish.carries w) c.loop-u.queue.fits inside (subst P e (c.loop-u.invariant.1 long)) c.in-Ok.ensures.answer
-
-pub returns-in-Err : goal.returns-in-Err
-returns-in-Err g c inside room =
-    let m = g.B.Blank.meaning c.args.self.now.blank in
-    let s = state_of c.args.self.now in
-    let rank = g.W.Wish.ranked c.args.self.now.wish in
-    let e : c.loop-u.u ≡ m.states = omega (arith, c.states-u-end.ensures) in
-    let P : ℕ → Type 0 = λ i. RanksBelow m s c.args.least rank c.loop-u.queue.row.now c.loop-u.queue.len i in
-    let long : m.states ≤ length c.over-queue.result.row.now = omega (arith, ap length c.over-queue.ensures.whole) in
-    choose_none m s c.args.least rank c.in-Err.ensures.answer.1 inside (subst P e (c.loop-u.invariant.1 long))
+    let all = subst P e (c.loop-u.invariant.1 long) in
+    taken_ok c.take.result c.ok.ensures.value c.take.ensures.answer (λ n taken. choose_first m s c.args.least rank (g.met.W.Wish.carries w) c.loop-u.queue.fits inside all taken) (λ x empty. choose_none m s c.args.least rank empty.1 inside all)

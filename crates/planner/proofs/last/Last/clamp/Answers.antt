@@ -1,4 +1,4 @@
-use Rattle.std.proofs.Common.{◌≡◌, set, None, sym, ◌∙◌, ap₂, rules}
+use Rattle.std.proofs.Common.{set, None, ◌∙◌, ap₂, rules}
 use Rattle.course.specs.declared.machine.Mark.TheVariants.{Open}
 use Rattle.planner.proofs.Marked.{fresh_marks, begins_life}
 use Rattle.planner.proofs.last.Last.clamp.Goals as goal

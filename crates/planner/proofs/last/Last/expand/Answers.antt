@@ -1,4 +1,4 @@
-use Rattle.std.proofs.Common.{◌≡◌, ℕ, ◌+◌, ◌<◌, ◌≤◌, length, get_or, None, sym, refl, ap, ◌∙◌, subst, arith, rules}
+use Rattle.std.proofs.Common.{◌<◌, length, get_or, None, refl, ap, ◌∙◌, subst, arith}
 use Rattle.course.specs.Blanks.{Meaning}
 use Rattle.course.specs.Machine.{Tried, end}
 use Rattle.course.proofs.Marks.{Within}

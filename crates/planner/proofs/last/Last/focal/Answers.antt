@@ -1,5 +1,4 @@
-use Rattle.std.proofs.Common.{rules}
 use Rattle.planner.proofs.last.Last.focal.Goals as goal
 
-pub returns-in_default : goal.returns-in_default
-returns-in_default g c k focal = c.in_default.ensures k focal.live
+pub returns-in_err-g : goal.returns-in_err-g
+returns-in_err-g g c = rw c.from_residual.ensures (λ k focal. c.in_err-g.ensures k focal.live)

@@ -1,18 +1,18 @@
-use Rattle.std.proofs.Common.{◌≡◌, ℕ, ◌+◌, Option, sym, ap, ◌∙◌, subst, arith, rules}
+use Rattle.std.proofs.Common.{◌≡◌, ℕ, ◌+◌, Option, None, min, sym, ◌∙◌, subst, arith, rules}
+use Rattle.std.specs.List.{range_with_len, filter_map, reduce}
+use Rattle.std.proofs.lemmas.Iterator.{YieldsList-from_range}
+use Rattle.std.proofs.lemmas.Iterator.Consumers.{YieldsList-from_filter_map, min_from_yields_List}
+use Rattle.std.proofs.lemmas.Iterator.Adapters.{option_map_id}
+use borrow.Author.Tests.{tests}
 use Rattle.planner.specs.Lasts.{state_of}
-use Rattle.planner.proofs.Scans.{Scanned, scan_dead, scan_live, scan_ends}
+use Rattle.planner.proofs.Scans.{Scanned, live_sum, live_sum_is, scan_all, scan_ends}
 use Rattle.planner.proofs.last.Last.least.Goals as goal
-use Rattle.planner.proofs.last.Last.least.Goals.{in-Some, in_default}
-
-pub loop-u-preserved : goal.loop-u-preserved
-loop-u-preserved g c =
-    let m = g.B.Blank.meaning c.args.self.now.blank in
-    let s = state_of c.args.self.now in
-    let P : Option ℕ → Type 0 = λ o. Scanned m s (c.loop-u.u + 1) o in
-    elim c.match-live.branch [
-      | in-Some w ↦ subst P (sym w.best-is) (scan_live c.loop-u.best w.in-Some.ensures.0 (ap (λ x. w.in-Some.g + x) w.in-Some.ensures.1) w.lesser.ensures c.loop-u.invariant)
-      | in_default w ↦ subst P (sym w.best-is) (scan_dead c.loop-u.best w.in_default.ensures c.loop-u.invariant)
-    ]
 
 pub returns : goal.returns
-returns g c inside = scan_ends _ _ c.loop-u.best (omega (arith, c.states-u-end.ensures)) inside c.loop-u.invariant
+returns g c inside =
+    let m = g.B.Blank.meaning c.args.self.now.blank in
+    let s = state_of c.args.self.now in
+    let n : ℕ = c.states.result in
+    let least = min_from_yields_List c.filter_map.result c.min.result c.min.ensures.ran (YieldsList-from_filter_map _ (live_sum m s) (YieldsList-from_range 0 n n (cc) (omega arith)) c.filter_map.ensures.closure (λ x r q k. (search (rules, tests), live_sum_is m s x r (search (rules, tests))))) in
+    let is : reduce min (filter_map (live_sum m s) (range_with_len 0 n)) ≡ c.min.result = sym least ∙ option_map_id c.min.result in
+    scan_ends m s c.min.result (omega (arith, c.states.ensures)) inside (subst (λ (o : Option ℕ). Scanned m s (0 + n) o) is (scan_all m s n 0 None (λ u g low. absurd (omega arith))))

@@ -1,9 +1,9 @@
-use Rattle.std.proofs.Common.{◌≡◌, ℕ, ◌+◌, ◌<◌, ◌≤◌, length, sym, refl, ap, ◌∙◌, subst, arith, rules}
+use Rattle.std.proofs.Common.{◌≡◌, ℕ, ◌+◌, ◌≤◌, length, sym, refl, ap, ◌∙◌, subst, arith}
 use Rattle.queue.specs.declared.row_queue.Queue.{Queue}
 use Rattle.rank.specs.declared.cost.CostRank.{CostRank}
 use Rattle.planner.specs.Lasts.{state_of}
-use Rattle.planner.proofs.Gathers.{put_length, gathered_none, gathered_skip}
-use Rattle.planner.proofs.Queued.{CostsBelow, cost_more, cost_first, cost_live, cost_none}
+use Rattle.planner.proofs.Gathers.{put_length, gathered_none, gathered_skip, taken_ok}
+use Rattle.planner.proofs.Queued.{CostsBelow, cost_more, cost_found, cost_none}
 use Rattle.planner.proofs.last.Last.least_queued.Goals as goal
 use Rattle.planner.proofs.last.Last.least_queued.Goals.{in-Some, in_default}
 
@@ -17,40 +17,31 @@ loop-u-preserved g c =
     let P : Queue CostRank → Type 0 = λ q.
     (length q.row.now ≡ length c.over-queue.result.row.now)
     × (m.states ≤ length c.over-queue.result.row.now → CostsBelow m s q.row.now q.len (c.loop-u.u + 1)) in
-    elim c.match-live.branch [
+    elim c.match-sum.branch [
       | in-Some w ↦ subst P (sym w.queue-is) (
         put_length _ _ _ _ _ w.put.result w.put.new.self.fits w.put.ensures.answer ∙ c.loop-u.invariant.0,
-        λ room. cost_more m s w.put.result w.put.ensures.answer (omega (arith, c.loop-u.invariant.0, c.states-u-end.ensures)) w.in-Some.ensures.0 (ap (λ x. w.in-Some.g + x) w.in-Some.ensures.1) (c.loop-u.invariant.1 room),
+        λ room. cost_more m s w.put.result w.put.ensures.answer (omega (arith, c.loop-u.invariant.0, c.states-u-end.ensures)) w.in-Some.ensures.1 (omega (arith, w.from.ensures, w.in-Some.ensures.2)) (c.loop-u.invariant.1 room),
       )
       | in_default w ↦ subst P (sym w.queue-is) (c.loop-u.invariant.0, λ room. gathered_skip w.in_default.ensures (c.loop-u.invariant.1 room))
     ]
 
-pub returns-in-Err : goal.returns-in-Err
-returns-in-Err g c inside room =
+pub returns-in_err-ok : goal.returns-in_err-ok
+returns-in_err-ok g c inside room =
     let m = g.B.Blank.meaning c.args.self.now.blank in
     let s = state_of c.args.self.now in
     let e : c.loop-u.u ≡ m.states = omega (arith, c.states-u-end.ensures) in
     let P : ℕ → Type 0 = λ i. CostsBelow m s c.loop-u.queue.row.now c.loop-u.queue.len i in
     let long : m.states ≤ length c.over-queue.result.row.now = omega (arith, ap length c.over-queue.ensures.whole) in
     let all = subst P e (c.loop-u.invariant.1 long) in
-    cost_none m s c.in-Err.ensures.answer.1 inside all
+    rw c.from_residual.ensures (taken_ok {S = λ _. Unit {0}} c.take.result c.in_err-ok.ensures.value c.take.ensures.answer (λ n taken. tt) (λ x empty. cost_none m s empty.1 inside all))
 
-pub returns-in-Some-live : goal.returns-in-Some-live
-returns-in-Some-live g c inside room =
+pub returns : goal.returns
+returns g c inside room =
     let m = g.B.Blank.meaning c.args.self.now.blank in
     let s = state_of c.args.self.now in
     let e : c.loop-u.u ≡ m.states = omega (arith, c.states-u-end.ensures) in
     let P : ℕ → Type 0 = λ i. CostsBelow m s c.loop-u.queue.row.now c.loop-u.queue.len i in
     let long : m.states ≤ length c.over-queue.result.row.now = omega (arith, ap length c.over-queue.ensures.whole) in
     let all = subst P e (c.loop-u.invariant.1 long) in
-    cost_first m s c.loop-u.queue.fits inside all c.in-Ok.ensures.answer c.in-Some-live.ensures.0 (ap (λ x. c.in-Some-live.g + x) c.in-Some-live.ensures.1)
-
-pub returns-in-None : goal.returns-in-None
-returns-in-None g c inside room =
-    let m = g.B.Blank.meaning c.args.self.now.blank in
-    let s = state_of c.args.self.now in
-    let e : c.loop-u.u ≡ m.states = omega (arith, c.states-u-end.ensures) in
-    let P : ℕ → Type 0 = λ i. CostsBelow m s c.loop-u.queue.row.now c.loop-u.queue.len i in
-    let long : m.states ≤ length c.over-queue.result.row.now = omega (arith, ap length c.over-queue.ensures.whole) in
-    let all = subst P e (c.loop-u.invariant.1 long) in
-    absurd (cost_live m s c.loop-u.queue.fits all c.in-Ok.ensures.answer c.in-None.ensures)
+    let taken = taken_ok {N = Unit {0}} c.take.result c.in_ok-ok.ensures.value c.take.ensures.answer (λ n taken. taken) (λ x empty. tt) in
+    cost_found m s c.sum-2.result c.loop-u.queue.fits inside all taken c.sum-2.ensures

@@ -1,4 +1,4 @@
-use Rattle.std.proofs.Common.{◌≡◌, ℕ, ◌+◌, ◌<◌, ◌≤◌, length, vec_items, Option, sym, refl, ap, ◌∙◌, subst, arith, rules}
+use Rattle.std.proofs.Common.{◌<◌, length, vec_items, sym, ap, ◌∙◌, subst, arith}
 use Rattle.course.specs.declared.machine.Mark.TheVariants.{Closed}
 use Rattle.course.specs.Blanks.{Meaning}
 use Rattle.course.specs.Machine.{Raised}
@@ -7,59 +7,43 @@ use Rattle.planner.specs.Lasts.{state_of, marks_of, standing_of}
 use Rattle.std.proofs.lemmas.Option.{MatchOption-at_some, MatchOption-at_none}
 use Rattle.planner.specs.Scans.{Inside, FoundLeast}
 use Rattle.planner.proofs.Marked.{marked_set, marks_inside}
-use Rattle.planner.proofs.OneMove.{shuts_as, least_focal, chosen_by, moves_from}
+use Rattle.planner.proofs.OneMove.{shuts_as, least_focal, moves_from}
 use Rattle.planner.proofs.last.Last.one_move.Goals as goal
 
-pub returns-in_default : goal.returns-in_default
-returns-in_default g c = record {
-  moves = λ held found rank_room room count low.
-      let live = held.some_live low in
-      absurd (MatchOption-at_none _ _ c.in_default.is found live.0 live.1 live.2);
-  blank = search rules;
-  wish = search rules;
-}
+pub returns-in_err-least-clause-moves : goal.returns-in_err-least-clause-moves
+returns-in_err-least-clause-moves g c held found rank_room room count low =
+    let live = held.some_live low in
+    absurd (MatchOption-at_none _ _ c.in_err-least.was found live.0 live.1 live.2)
 
-pub returns-in_default-choose : goal.returns-in_default-choose
-returns-in_default-choose g c =
-    let law = g.B.Blank.lawful c.args.self.now.blank in
+pub returns-in_err-n-clause-moves : goal.returns-in_err-n-clause-moves
+returns-in_err-n-clause-moves g c held found rank_room room count low =
     let s = state_of c.args.self.now in
-    record {
-      moves = λ held found rank_room room count low.
-          let inside = marks_inside s law held.kept.marks in
-          let least = MatchOption-at_some _ _ _ c.in-Some.is found in
-          absurd (c.in_default-choose.ensures inside room least.at least.at_g (least_focal c.args.self.now.order least));
-      blank = search rules;
-      wish = search rules;
-    }
+    let inside = marks_inside s (g.B.Blank.lawful c.args.self.now.blank) held.kept.marks in
+    let least = MatchOption-at_some _ _ _ c.in_ok-least.was found in
+    absurd (c.in_err-n.ensures inside room least.at least.at_g (least_focal c.args.self.now.order least))
 
-pub returns-in_default-mark : goal.returns-in_default-mark
-returns-in_default-mark g c =
-    let law = g.B.Blank.lawful c.args.self.now.blank in
+pub returns-in_default-clause-moves : goal.returns-in_default-clause-moves
+returns-in_default-clause-moves g c held found rank_room room count low =
     let s = state_of c.args.self.now in
-    record {
-      moves = λ held found rank_room room count low.
-          let inside = marks_inside s law held.kept.marks in
-          let chosen = c.in-Some-choose.ensures inside room in
-          absurd (c.in_default-mark.not-Open _ (c.mark.ensures ∙ chosen.1.focal.live.is_open));
-      blank = search rules;
-      wish = search rules;
-    }
+    let inside = marks_inside s (g.B.Blank.lawful c.args.self.now.blank) held.kept.marks in
+    let chosen = c.in_ok-n.ensures inside room in
+    absurd (c.in_default.not-Open _ (c.mark.ensures ∙ chosen.1.focal.live.is_open))
 
 pub returns : goal.returns
 returns g c =
     let m = g.B.Blank.meaning c.args.self.now.blank in
     let law = g.B.Blank.lawful c.args.self.now.blank in
     let s = state_of c.args.self.now in
-    let n = c.in-Some-choose.n in
+    let n = c.in_ok-n.n in
     let old = vec_items c.args.self.now.bench.marks in
     record {
       moves = λ held found rank_room room count low.
           let inside = marks_inside s law held.kept.marks in
-          let least = MatchOption-at_some _ _ _ c.in-Some.is found in
-          let chosen = c.in-Some-choose.ensures inside room in
+          let least = MatchOption-at_some _ _ _ c.in_ok-least.was found in
+          let chosen = c.in_ok-n.ensures inside room in
           let is = sym c.mark.ensures ∙ c.in-Open.is in
           let low_n : n < length old = omega (arith, live_in law held.kept chosen.1.focal.live, law.states_most, c.args.self.now.bench.marks.ok.0, c.args.self.now.bench.marks_full) in
-          let shut = shuts_as s n (Closed c.in-Open.reach) (ap marks_of c.set_mark.ensures.marks ∙ marked_set old n _ low_n) (ap (λ p. standing_of c.args.self.now.standing (vec_items p)) c.set_mark.ensures.path) in
+          let shut = shuts_as s n (Closed c.in-Open.reach) (ap marks_of c.set_mark.ensures.marks ∙ marked_set old n _ low_n) (ap (λ p. standing_of c.args.self.now.standing (vec_items p)) c.set_mark.ensures.path) c.in_ok-self.ensures.1 in
           let z = state_of c.expand.new.self in
           let next = c.least_queued-next.result in
           let same = ap g.B.Blank.meaning c.expand.ensures.blank in

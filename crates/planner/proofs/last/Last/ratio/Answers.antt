@@ -1,5 +1,5 @@
-use Rattle.std.proofs.Common.{◌⊎◌, refl, inl, inr, arith, rules}
-use Rattle.course.specs.Calls.{agrees, no_ratio, Allowed}
+use Rattle.std.proofs.Common.{arith, rules}
+use Rattle.course.specs.Calls.{agrees, no_ratio}
 use Rattle.planner.proofs.last.Last.ratio.Goals as goal
 
 pub returns-then-q-lt1 : goal.returns-then-q-lt1

@@ -1,5 +1,4 @@
-use Rattle.std.proofs.Common.{◌≡◌, ℕ, ◌+◌, ◌<◌, ◌≤◌, length, Some, vec_items, sym, refl, ap, ◌∙◌, subst, arith, rules}
-use Rattle.course.specs.declared.machine.Mark.TheVariants.{Open}
+use Rattle.std.proofs.Common.{◌<◌, length, vec_items, sym, ap, ◌∙◌, arith, rules}
 use Rattle.course.specs.Blanks.{Leads}
 use Rattle.planner.specs.Lasts.{state_of, marks_of, standing_of}
 use Rattle.planner.proofs.Marked.{marked_set}
@@ -9,8 +8,8 @@ use Rattle.planner.proofs.last.Last.try_place.Goals as goal
 pub returns-in_default : goal.returns-in_default
 returns-in_default g c = record { tried = λ marks within. try_empty c.in_default.ensures; blank = search rules; wish = search rules }
 
-pub returns-then-sum-limit : goal.returns-then-sum-limit
-returns-then-sum-limit g c = record { tried = λ marks within. try_dear c.in-Some.ensures (omega (arith, c.limit.ensures, c.estimate.ensures)); blank = search rules; wish = search rules }
+pub returns-then-sum-from : goal.returns-then-sum-from
+returns-then-sum-from g c = record { tried = λ marks within. try_dear c.in-Some.ensures (omega (arith, c.limit.ensures, c.estimate.ensures)); blank = search rules; wish = search rules }
 
 pub arrive-requires : goal.arrive-requires
 arrive-requires g c = (g.B.Blank.lawful c.args.self.now.blank).cost_most (record { place = c.args.place; holds = sym c.in-Some.ensures })

@@ -1,4 +1,4 @@
-use Rattle.std.proofs.Common.{◌≡◌, ℕ, ◌+◌, ◌<◌, ◌≤◌, ◌⊎◌, length, Some, None, sym, refl, ap, ◌∙◌, subst, subst₂, inl, inr, arith, rules}
+use Rattle.std.proofs.Common.{◌≡◌, length, sym, refl, ap, ◌∙◌, subst₂, inl, inr, arith}
 use Rattle.course.specs.Blanks.{Meaning}
 use Rattle.course.specs.Machine.{Order}
 use Rattle.course.specs.Calls.{short_row, over_budget}
@@ -6,7 +6,7 @@ use Rattle.course.proofs.Lives.{life_held}
 use Rattle.wish.specs.Wished.{order_of}
 use Rattle.planner.specs.Lasts.{state_of}
 use Rattle.planner.proofs.Marked.{marks_inside}
-use Rattle.planner.proofs.Working.{Working, Moves, working_first, working_more, working_moves, working_stops, working_spent, working_at, accepted_work}
+use Rattle.planner.proofs.Working.{Moves, working_first, working_more, working_moves, working_stops, working_ends, working_at, accepted_work}
 use Rattle.planner.proofs.last.Last.work.Goals as goal
 
 pub loop-moves-init : goal.loop-moves-init
@@ -23,14 +23,14 @@ loop-moves-init g c =
 pub loop-moves-preserved : goal.loop-moves-preserved
 loop-moves-preserved g c =
     let law = g.B.Blank.lawful c.args.self.now.blank in
-    let R : Meaning → Order → Type 0 = λ m ord. Moves m ord (length c.loop-moves.costs) (length c.loop-moves.wishes) (state_of c.loop-moves.self) c.loop-moves.least (Some c.in-Some-one_move.next) (state_of c.one_move.new.self) in
-    let moves = subst₂ R (ap g.B.Blank.meaning c.loop-moves.invariant.0) (ap (λ w. order_of (g.W.Wish.ranked w) g.W.Rank.Rank.precedes) c.loop-moves.invariant.1) c.in-Some-one_move.ensures.moves in (
-      c.one_move.ensures.blank ∙ c.loop-moves.invariant.0,
-      c.one_move.ensures.wish ∙ c.loop-moves.invariant.1,
+    let R : Meaning → Order → Type 0 = λ m ord. Moves m ord (length c.loop-moves.costs) (length c.loop-moves.wishes) (state_of c.loop-moves.self) c.loop-moves.least c.one_move-least.result (state_of c.one_move-least.new.self) in
+    let moves = subst₂ R (ap g.B.Blank.meaning c.loop-moves.invariant.0) (ap (λ w. order_of (g.W.Wish.ranked w) g.W.Rank.Rank.precedes) c.loop-moves.invariant.1) c.one_move-least.ensures.moves in (
+      c.one_move-least.ensures.blank ∙ c.loop-moves.invariant.0,
+      c.one_move-least.ensures.wish ∙ c.loop-moves.invariant.1,
       λ cs life.
           let now = c.loop-moves.invariant.2 cs life in
           let on = c.in_default.ensures in
-          let made = working_moves c.loop-moves.least (Some c.in-Some-one_move.next) (state_of c.one_move.new.self) law (omega (arith, c.loop-moves.auto.costs, c.states-states.ensures)) (omega (arith, c.loop-moves.auto.wishes, c.states-states.ensures)) on moves now.0 now.1 in
+          let made = working_moves c.loop-moves.least c.one_move-least.result (state_of c.one_move-least.new.self) law (omega (arith, c.loop-moves.auto.costs, c.states-states.ensures)) (omega (arith, c.loop-moves.auto.wishes, c.states-states.ensures)) on moves now.0 now.1 in
           (working_more law on made.0 now.0, made.1),
     )
 
@@ -59,38 +59,12 @@ returns-in-Some g c = record {
   wish = c.loop-moves.invariant.1;
 }
 
-pub returns-in_default-one_move : goal.returns-in_default-one_move
-returns-in_default-one_move g c =
-    let law = g.B.Blank.lawful c.args.self.now.blank in
-    let R : Meaning → Order → Type 0 = λ m ord. Moves m ord (length c.loop-moves.costs) (length c.loop-moves.wishes) (state_of c.loop-moves.self) c.loop-moves.least None (state_of c.one_move.new.self) in
-    let moves = subst₂ R (ap g.B.Blank.meaning c.loop-moves.invariant.0) (ap (λ w. order_of (g.W.Wish.ranked w) g.W.Rank.Rank.precedes) c.loop-moves.invariant.1) c.in_default-one_move.ensures.moves in
-    record {
-      answer = accepted_work law (omega (arith, c.states-states.ensures)) (omega (arith, c.states-states.ensures)) (omega arith)
-          (λ cs life.
-          let now = c.loop-moves.invariant.2 cs life in
-          absurd (working_moves c.loop-moves.least None (state_of c.one_move.new.self) law (omega (arith, c.loop-moves.auto.costs, c.states-states.ensures)) (omega (arith, c.loop-moves.auto.wishes, c.states-states.ensures)) c.in_default.ensures moves now.0 now.1));
-      untouched = tt;
-      blank = c.one_move.ensures.blank ∙ c.loop-moves.invariant.0;
-      wish = c.one_move.ensures.wish ∙ c.loop-moves.invariant.1;
-    }
-
-pub returns-in-Some-look : goal.returns-in-Some-look
-returns-in-Some-look g c =
+pub returns : goal.returns
+returns g c =
     let all : c.loop-moves.moves ≡ c.args.budget = omega arith in
     record {
       answer = accepted_work (g.B.Blank.lawful c.args.self.now.blank) (omega (arith, c.states-states.ensures)) (omega (arith, c.states-states.ensures)) (omega arith)
-          (λ cs life. working_stops c.in-Some-look.word (omega arith) c.in-Some-look.ensures (working_at all (c.loop-moves.invariant.2 cs life).0));
-      untouched = tt;
-      blank = c.loop-moves.invariant.0;
-      wish = c.loop-moves.invariant.1;
-    }
-
-pub returns-in-None : goal.returns-in-None
-returns-in-None g c =
-    let all : c.loop-moves.moves ≡ c.args.budget = omega arith in
-    record {
-      answer = accepted_work (g.B.Blank.lawful c.args.self.now.blank) (omega (arith, c.states-states.ensures)) (omega (arith, c.states-states.ensures)) (omega arith)
-          (λ cs life. working_spent refl c.in-None.ensures (working_at all (c.loop-moves.invariant.2 cs life).0));
+          (λ cs life. working_ends c.look-2.result refl (sym c.unwrap_or.ensures) c.look-2.ensures (working_at all (c.loop-moves.invariant.2 cs life).0));
       untouched = tt;
       blank = c.loop-moves.invariant.0;
       wish = c.loop-moves.invariant.1;

@@ -38,8 +38,8 @@ state_of l =
       mark = marks_of (vec_items l.bench.marks);
       standing = standing_of l.standing (vec_items l.bench.path);
       ceiling = l.ceiling;
-      p = l.p;
-      q = l.q;
+      p = l.ratio.p;
+      q = l.ratio.q;
       floor = l.floor;
       moves = l.moves;
     }

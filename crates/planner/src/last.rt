@@ -2,6 +2,7 @@
 ghost use Rattle.std.specs.Prelude.{ℕ, ◌≤◌};
 
 use crate::bench::Bench;
+use crate::ratio::Ratio;
 
 mod choose;
 mod clamp;
@@ -33,12 +34,8 @@ pub struct Last<B, W> {
     wish: W,
     standing: Option<Incumbent>,
     ceiling: u32,
-    p: u32,
-    q: u32,
+    ratio: Ratio,
     floor: u32,
     moves: u32,
     ghost low: { ceiling ≤ 1023000 },
-    ghost some: { 1 ≤ q },
-    ghost order: { q ≤ p },
-    ghost high: { p ≤ 1000 },
 }

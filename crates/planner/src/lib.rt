@@ -6,3 +6,4 @@ mod alike;
 mod bench;
 mod chain;
 mod last;
+mod ratio;

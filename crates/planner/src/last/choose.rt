@@ -20,14 +20,13 @@ impl<B: Blank, W: Wish> Last<B, W> {
             × (x ≡ numbers (B.meaning self.now.blank) (state_of self.now) least u x.g)) }
     {
         let (g, h) = self.live(u)?;
-        let near = u64::from(g + h) * u64::from(self.q) <= u64::from(self.p) * u64::from(least);
-        near.then(|| Numbers {
+        self.ratio.spans(g + h, least).then(|| Numbers {
             state: u,
             g,
             h,
             limit: self.limit(),
-            p: self.p,
-            q: self.q,
+            p: self.ratio.p,
+            q: self.ratio.q,
             least,
         })
     }

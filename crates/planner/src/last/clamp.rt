@@ -7,6 +7,7 @@ ghost use Rattle.planner.specs.Lasts.{state_of};
 
 use crate::bench::Bench;
 use crate::last::Last;
+use crate::ratio::Ratio;
 use blank::Blank;
 use course::{Mark, Reach};
 use wish::Wish;
@@ -33,8 +34,7 @@ impl<B: Blank, W: Wish> Last<B, W> {
             wish,
             standing: None,
             ceiling: 1023000,
-            p: 1,
-            q: 1,
+            ratio: Ratio { p: 1, q: 1 },
             floor: 0,
             moves: 0,
         };
@@ -54,8 +54,7 @@ impl<B: Blank, W: Wish> Last<B, W> {
             wish,
             standing: _,
             ceiling: _,
-            p: _,
-            q: _,
+            ratio: _,
             floor: _,
             moves: _,
         } = self;

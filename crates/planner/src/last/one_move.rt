@@ -53,9 +53,7 @@ impl<B: Blank, W: Wish> Last<B, W> {
             return Some(Word::Done);
         }
         let found = self.standing?;
-        let met = found.cost <= self.ceiling
-            && u64::from(found.cost) * u64::from(self.q)
-                <= u64::from(self.p) * u64::from(self.floor);
+        let met = found.cost <= self.ceiling && self.ratio.spans(found.cost, self.floor);
         met.then_some(Word::Met)
     }
 }

@@ -5,6 +5,7 @@ ghost use Rattle.planner.specs.Lasts.{state_of};
 ghost use Rattle.planner.specs.Calls.{RatioAnswered, CeilingAnswered};
 
 use crate::last::Last;
+use crate::ratio::Ratio;
 use blank::Blank;
 use course::Refusal;
 use wish::Wish;
@@ -17,11 +18,7 @@ impl<B: Blank, W: Wish> Last<B, W> {
         ensures blank { self.new.blank ≡ self.old.blank }
         ensures wish { self.new.wish ≡ self.old.wish }
     {
-        if q < 1 || p < q || p > 1000 {
-            return Err(Refusal::BadRatio);
-        }
-        self.p = p;
-        self.q = q;
+        self.ratio = Ratio::new(p, q)?;
         Ok(())
     }
 

@@ -28,8 +28,8 @@ impl<B: Blank, W: Wish> Last<B, W> {
             floor: self.floor,
             moves: self.moves,
             ceiling: self.ceiling,
-            p: self.p,
-            q: self.q,
+            p: self.ratio.p,
+            q: self.ratio.q,
         }
     }
 }

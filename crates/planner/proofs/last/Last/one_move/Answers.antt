@@ -20,7 +20,7 @@ returns-in_err-n-clause-moves g c held found rank_room room count low =
     let s = state_of c.args.self.now in
     let inside = marks_inside s (g.B.Blank.lawful c.args.self.now.blank) held.kept.marks in
     let least = MatchOption-at_some _ _ _ c.in_ok-least.was found in
-    absurd (c.in_err-n.ensures inside room least.at least.at_g (least_focal c.args.self.now.order least))
+    absurd (c.in_err-n.ensures inside room least.at least.at_g (least_focal c.args.self.now.ratio.allowed.order least))
 
 pub returns-in_default-clause-moves : goal.returns-in_default-clause-moves
 returns-in_default-clause-moves g c held found rank_room room count low =

@@ -7,7 +7,8 @@ use Rattle.course.specs.Machine.{Standing, State}
 use Rattle.course.specs.declared.machine.Word.{Word}
 use Rattle.course.specs.declared.machine.Word.TheVariants.{Done as done, Met as met, Spent as spent}
 use Rattle.course.specs.Calls.{Finished, Met}
-use Rattle.planner.specs.declared.last.Incumbent.{Incumbent}
+use Rattle.planner.specs.declared.search.Incumbent.{Incumbent}
+use Rattle.planner.specs.declared.search.Search.{Search}
 use Rattle.planner.specs.declared.last.Last.{Last}
 
 -- The mark of each state, as the bench has it.
@@ -31,18 +32,22 @@ abbrev pub standing_of : Option Incumbent → List ℕ → Option Standing
 standing_of None path = None
 standing_of (Some f) path = Some (record { path = take f.len path; cost = f.cost })
 
+-- The state of the machine that a search is in.
+abbrev pub search_state : Search → State
+search_state s =
+    record {
+      mark = marks_of (vec_items s.bench.marks);
+      standing = standing_of s.standing (vec_items s.bench.path);
+      ceiling = s.ceiling;
+      p = s.ratio.p;
+      q = s.ratio.q;
+      floor = s.floor;
+      moves = s.moves;
+    }
+
 -- The state of the machine that a last is in.
 abbrev pub state_of : {B W : Type 0} → Last B W → State
-state_of l =
-    record {
-      mark = marks_of (vec_items l.bench.marks);
-      standing = standing_of l.standing (vec_items l.bench.path);
-      ceiling = l.ceiling;
-      p = l.ratio.p;
-      q = l.ratio.q;
-      floor = l.floor;
-      moves = l.moves;
-    }
+state_of l = search_state l.search
 
 -- A look at a state tells a work to stop by a word.
 abbrev pub Stops : Word → State → Type 0

@@ -7,3 +7,4 @@ mod bench;
 mod chain;
 mod last;
 mod ratio;
+mod search;

@@ -8,6 +8,7 @@ ghost use Rattle.planner.specs.Lasts.{state_of};
 use crate::bench::Bench;
 use crate::last::Last;
 use crate::ratio::Ratio;
+use crate::search::Search;
 use blank::Blank;
 use course::{Mark, Reach};
 use wish::Wish;
@@ -28,18 +29,20 @@ impl<B: Blank, W: Wish> Last<B, W> {
     {
         bench.clean();
         bench.set_mark(blank.start(), Mark::Open(Reach { g: 0, from: None }));
-        let mut last = Last {
+        let mut search = Search {
             bench,
-            blank,
-            wish,
             standing: None,
             ceiling: 1023000,
             ratio: Ratio { p: 1, q: 1 },
             floor: 0,
             moves: 0,
         };
-        last.raise_floor();
-        last
+        search.raise_floor(&blank);
+        Last {
+            blank,
+            wish,
+            search,
+        }
     }
 
     // The bench, idle, and what it was clamped with.
@@ -49,14 +52,9 @@ impl<B: Blank, W: Wish> Last<B, W> {
         ensures wish { result.wish ≡ self.wish }
     {
         let Last {
-            mut bench,
             blank,
             wish,
-            standing: _,
-            ceiling: _,
-            ratio: _,
-            floor: _,
-            moves: _,
+            search: Search { mut bench, .. },
         } = self;
         bench.clean();
         Lifted { bench, blank, wish }

@@ -21,8 +21,8 @@ impl<B: Blank, W: Wish> Last<B, W> {
     pub(crate) fn route(&self, row: &mut [u32]) -> Result<Told, Refusal>
         ensures { RouteAnswered (B.meaning self.now.blank) (order_of (W.ranked self.now.wish) W.Rank.Rank.precedes) (state_of self.now) row.old result row.new }
     {
-        let found = self.standing.ok_or(Refusal::NoRoute)?;
-        let path = &self.bench.path()[..found.len as usize];
+        let found = self.search.standing.ok_or(Refusal::NoRoute)?;
+        let path = &self.search.bench.path()[..found.len as usize];
         if row.len() < path.len() {
             return Err(Refusal::RowTooShort);
         }
@@ -30,7 +30,7 @@ impl<B: Blank, W: Wish> Last<B, W> {
         Ok(Told {
             len: found.len,
             cost: found.cost,
-            floor: self.floor,
+            floor: self.search.floor,
         })
     }
 }

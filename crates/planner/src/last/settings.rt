@@ -18,7 +18,7 @@ impl<B: Blank, W: Wish> Last<B, W> {
         ensures blank { self.new.blank ≡ self.old.blank }
         ensures wish { self.new.wish ≡ self.old.wish }
     {
-        self.ratio = Ratio::new(p, q)?;
+        self.search.ratio = Ratio::new(p, q)?;
         Ok(())
     }
 
@@ -29,11 +29,11 @@ impl<B: Blank, W: Wish> Last<B, W> {
         ensures blank { self.new.blank ≡ self.old.blank }
         ensures wish { self.new.wish ≡ self.old.wish }
     {
-        if c > self.ceiling {
+        if c > self.search.ceiling {
             return Err(Refusal::CeilingRaised);
         }
-        self.ceiling = c;
-        self.raise_floor();
+        self.search.ceiling = c;
+        self.search.raise_floor(&self.blank);
         Ok(())
     }
 }

@@ -24,12 +24,12 @@ impl<B: Blank, W: Wish> Last<B, W> {
         ensures { ShowAnswered (B.meaning self.now.blank) (order_of (W.ranked self.now.wish) W.Rank.Rank.precedes) (state_of self.now) result }
     {
         Shown {
-            cost: self.standing.map(|found| found.cost),
-            floor: self.floor,
-            moves: self.moves,
-            ceiling: self.ceiling,
-            p: self.ratio.p,
-            q: self.ratio.q,
+            cost: self.search.standing.map(|found| found.cost),
+            floor: self.search.floor,
+            moves: self.search.moves,
+            ceiling: self.search.ceiling,
+            p: self.search.ratio.p,
+            q: self.search.ratio.q,
         }
     }
 }

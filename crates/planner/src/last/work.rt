@@ -40,15 +40,17 @@ impl<B: Blank, W: Wish> Last<B, W> {
         if budget > MOST_MOVES {
             return Err(Refusal::BudgetTooLarge);
         }
-        let mut least = self.least_queued(costs);
+        let mut least = self.search.least_queued(&self.blank, costs);
         for moves in 0..budget {
-            if let Some(word) = self.look() {
+            if let Some(word) = self.search.look() {
                 return Ok(Worked { word, moves });
             }
-            least = self.one_move(least, costs, wishes);
+            least = self
+                .search
+                .one_move(&self.blank, &self.wish, least, costs, wishes);
         }
         Ok(Worked {
-            word: self.look().unwrap_or(Word::Spent),
+            word: self.search.look().unwrap_or(Word::Spent),
             moves: budget,
         })
     }

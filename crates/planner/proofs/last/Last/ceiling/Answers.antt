@@ -13,7 +13,7 @@ pub returns : goal.returns
 returns g c =
     let law = g.B.Blank.lawful c.args.self.now.blank in
     record {
-      answer = record { allowed = omega arith; does = λ cs life. lowers (omega arith) (c.raise_floor.ensures.raised (marks_inside (with_ceiling (state_of c.args.self.now) c.args.c) law (life_held law life).kept.marks)) };
+      answer = record { allowed = omega arith; does = λ cs life. lowers (omega arith) (c.raise_floor.ensures (marks_inside (with_ceiling (state_of c.args.self.now) c.args.c) law (life_held law life).kept.marks)) };
       untouched = tt;
       blank = search rules;
       wish = search rules;

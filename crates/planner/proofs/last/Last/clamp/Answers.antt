@@ -4,4 +4,4 @@ use Rattle.planner.proofs.Marked.{fresh_marks, begins_life}
 use Rattle.planner.proofs.last.Last.clamp.Goals as goal
 
 pub returns : goal.returns
-returns g c = record { life = begins_life (g.B.Blank.lawful c.args.blank) (fresh_marks (g.B.Blank.lawful c.args.blank) (c.set_mark.ensures.marks ∙ ap₂ (λ xs v. set xs v (Open (record { g = 0; from = None }))) c.clean.ensures.unseen c.start.ensures)) c.raise_floor.ensures.raised; blank = search rules; wish = search rules }
+returns g c = record { life = begins_life (g.B.Blank.lawful c.args.blank) (fresh_marks (g.B.Blank.lawful c.args.blank) (c.set_mark.ensures.marks ∙ ap₂ (λ xs v. set xs v (Open (record { g = 0; from = None }))) c.clean.ensures.unseen c.start.ensures)) c.raise_floor.ensures; blank = search rules; wish = search rules }

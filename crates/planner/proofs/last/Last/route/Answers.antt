@@ -11,7 +11,7 @@ use Rattle.planner.proofs.last.Last.route.Goals as goal
 
 pub returns-in_err-found : goal.returns-in_err-found
 returns-in_err-found g c =
-    let path = vec_items c.args.self.now.bench.path in
+    let path = vec_items c.args.self.now.search.bench.path in
     let none = c.in_err-found.ensures.ok_part in
     let p = err_from_is_err_and c.from_residual.result c.from_residual.ensures.1 in
     let e : c.in_err-found.field-0.0 ≡ NoRoute = cc (c.in_err-found.ensures.value, ap (λ o. ok_or o NoRoute) none) in
@@ -19,16 +19,16 @@ returns-in_err-found g c =
 
 pub returns-then-row-path : goal.returns-then-row-path
 returns-then-row-path g c =
-    let path = vec_items c.args.self.now.bench.path in
-    let fits : c.in_ok-found.found.len ≤ length path = omega (arith, c.args.self.now.bench.path.ok.0, c.args.self.now.bench.path_full, c.in_ok-found.found.short) in
+    let path = vec_items c.args.self.now.search.bench.path in
+    let fits : c.in_ok-found.found.len ≤ length path = omega (arith, c.args.self.now.search.bench.path.ok.0, c.args.self.now.search.bench.path_full, c.in_ok-found.found.short) in
     record { does = no_room (ap (λ o. standing_of o path) c.in_ok-found.ensures.ok_part) (omega (arith, ap (λ xs. length (take c.in_ok-found.found.len xs)) c.path.ensures)); same = refl }
 
 pub returns : goal.returns
 returns g c =
-    let path = vec_items c.args.self.now.bench.path in
+    let path = vec_items c.args.self.now.search.bench.path in
     let row = c.args.row.now in
     let len = c.in_ok-found.found.len in
-    let fits : len ≤ length path = omega (arith, c.args.self.now.bench.path.ok.0, c.args.self.now.bench.path_full, c.in_ok-found.found.short) in
+    let fits : len ≤ length path = omega (arith, c.args.self.now.search.bench.path.ok.0, c.args.self.now.search.bench.path_full, c.in_ok-found.found.short) in
     let long : length (take len path) ≡ len = length-take-le len path fits in
     let same : take len c.path.result.now ≡ take len path = ap (take len) c.path.ensures in
     let counted : length (take len c.path.result.now) ≡ len = ap length same ∙ long in

@@ -1,10 +1,10 @@
-use Rattle.std.proofs.Common.{◌≡◌, length, sym, refl, ap, ◌∙◌, subst₂, inl, inr, arith}
+use Rattle.std.proofs.Common.{◌≡◌, length, sym, refl, ap, subst₂, inl, inr, arith}
 use Rattle.course.specs.Blanks.{Meaning}
 use Rattle.course.specs.Machine.{Order}
 use Rattle.course.specs.Calls.{short_row, over_budget}
 use Rattle.course.proofs.Lives.{life_held}
 use Rattle.wish.specs.Wished.{order_of}
-use Rattle.planner.specs.Lasts.{state_of}
+use Rattle.planner.specs.Lasts.{state_of, search_state}
 use Rattle.planner.proofs.Marked.{marks_inside}
 use Rattle.planner.proofs.Working.{Moves, working_first, working_more, working_moves, working_stops, working_ends, working_at, accepted_work}
 use Rattle.planner.proofs.last.Last.work.Goals as goal
@@ -23,14 +23,14 @@ loop-moves-init g c =
 pub loop-moves-preserved : goal.loop-moves-preserved
 loop-moves-preserved g c =
     let law = g.B.Blank.lawful c.args.self.now.blank in
-    let R : Meaning → Order → Type 0 = λ m ord. Moves m ord (length c.loop-moves.costs) (length c.loop-moves.wishes) (state_of c.loop-moves.self) c.loop-moves.least c.one_move-least.result (state_of c.one_move-least.new.self) in
-    let moves = subst₂ R (ap g.B.Blank.meaning c.loop-moves.invariant.0) (ap (λ w. order_of (g.W.Wish.ranked w) g.W.Rank.Rank.precedes) c.loop-moves.invariant.1) c.one_move-least.ensures.moves in (
-      c.one_move-least.ensures.blank ∙ c.loop-moves.invariant.0,
-      c.one_move-least.ensures.wish ∙ c.loop-moves.invariant.1,
+    let R : Meaning → Order → Type 0 = λ m ord. Moves m ord (length c.loop-moves.costs) (length c.loop-moves.wishes) (state_of c.loop-moves.self) c.loop-moves.least c.one_move-least.result (search_state c.one_move-least.new.self) in
+    let moves = subst₂ R (ap g.B.Blank.meaning c.loop-moves.invariant.0) (ap (λ w. order_of (g.W.Wish.ranked w) g.W.Rank.Rank.precedes) c.loop-moves.invariant.1) c.one_move-least.ensures in (
+      c.loop-moves.invariant.0,
+      c.loop-moves.invariant.1,
       λ cs life.
           let now = c.loop-moves.invariant.2 cs life in
           let on = c.in_default.ensures in
-          let made = working_moves c.loop-moves.least c.one_move-least.result (state_of c.one_move-least.new.self) law (omega (arith, c.loop-moves.auto.costs, c.states-states.ensures)) (omega (arith, c.loop-moves.auto.wishes, c.states-states.ensures)) on moves now.0 now.1 in
+          let made = working_moves c.loop-moves.least c.one_move-least.result (search_state c.one_move-least.new.self) law (omega (arith, c.loop-moves.auto.costs, c.states-states.ensures)) (omega (arith, c.loop-moves.auto.wishes, c.states-states.ensures)) on moves now.0 now.1 in
           (working_more law on made.0 now.0, made.1),
     )
 

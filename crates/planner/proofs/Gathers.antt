@@ -8,6 +8,7 @@ use Rattle.std.proofs.lemmas.List.Sorted.{IsPermutation-sym}
 use Rattle.std.proofs.lemmas.Bool.{cases_lt}
 use Rattle.course.specs.declared.refusal.Refusal.{Refusal}
 use Rattle.course.specs.Refusals.{number_of}
+use Rattle.queue.specs.declared.row_queue.Queue.{Queue}
 use Rattle.queue.specs.Held.{Put, Unchanged, Taken}
 
 -- What a put answers.
@@ -54,13 +55,13 @@ all_last P [] x h = h.0
 all_last P (y ∷ ys) x h = all_last P ys x h.1
 
 -- A put keeps the row's length.
-pub put_length : {R : Type 0} (x : R) (row row' : List R) (n n' : ℕ) (a : Result (Unit {0}) Refusal) → n' ≤ length row' → PutAnswered x row n row' n' a → length row' ≡ length row
+put_length : {R : Type 0} (x : R) (row row' : List R) (n n' : ℕ) (a : Result (Unit {0}) Refusal) → n' ≤ length row' → PutAnswered x row n row' n' a → length row' ≡ length row
 put_length x row row' n n' (Ok v) fits put = omega (arith, put.room, put.more, length-drop n' row, length-drop n' row', ap length put.rest)
 put_length x row row' n n' (Err e) fits full = ap length full.2.same
 
 module _ {R : Type 0} {Wanted : ℕ → ℕ → Type 0} {made : ℕ → ℕ → R} where
   -- Before the first state.
-  pub gathered_none : (row : List R) (n : ℕ) → n ≡ 0 → Gathered Wanted made row n 0
+  gathered_none : (row : List R) (n : ℕ) → n ≡ 0 → Gathered Wanted made row n 0
   gathered_none row n e = record {
     few = omega arith;
     only = subst (λ (k : ℕ). AllByRecursion (Made Wanted made) (take k row)) (sym e) tt;
@@ -68,7 +69,7 @@ module _ {R : Type 0} {Wanted : ℕ → ℕ → Type 0} {made : ℕ → ℕ → 
   }
 
   -- A state that is not wanted is passed over.
-  pub gathered_skip : {row : List R} {n i : ℕ} → ((g : ℕ) → Wanted i g → ⊥) → Gathered Wanted made row n i → Gathered Wanted made row n (i + 1)
+  gathered_skip : {row : List R} {n i : ℕ} → ((g : ℕ) → Wanted i g → ⊥) → Gathered Wanted made row n i → Gathered Wanted made row n (i + 1)
   gathered_skip {row} {n} {i} none old = record {
     few = omega (arith, old.few);
     only = old.only;
@@ -103,7 +104,7 @@ module _ {R : Type 0} {Wanted : ℕ → ℕ → Type 0} {made : ℕ → ℕ → 
       ]
 
   -- The same by what a put answers, where the row has room.
-  pub gathered_more : {row row' : List R} {n n' i g : ℕ} {x : R} (a : Result (Unit {0}) Refusal) → PutAnswered x row n row' n' a → i < length row → Wanted i g → ((k : ℕ) → Wanted i k → g ≡ k) → x ≡ made i g → Gathered Wanted made row n i → Gathered Wanted made row' n' (i + 1)
+  gathered_more : {row row' : List R} {n n' i g : ℕ} {x : R} (a : Result (Unit {0}) Refusal) → PutAnswered x row n row' n' a → i < length row → Wanted i g → ((k : ℕ) → Wanted i k → g ≡ k) → x ≡ made i g → Gathered Wanted made row n i → Gathered Wanted made row' n' (i + 1)
   gathered_more (Ok v) put room want one is old = gathered_put want one is put old
   gathered_more (Err e) full room want one is old = absurd (omega (arith, full.1, old.few))
 
@@ -132,3 +133,24 @@ module _ {R : Type 0} {Wanted : ℕ → ℕ → Type 0} {made : ℕ → ℕ → 
       let wrong : ◌≡◌ {A = Bool} false true = all.each u g low want (λ _. false) none in
       let no_way : ◌≡◌ {A = ℕ} 0 1 = cc in
       omega arith
+
+-- A queue over a row of so much room, once the states below i have been scanned.
+pub record Gathering {R : Type 0} (Wanted : ℕ → ℕ → Type 0) (made : ℕ → ℕ → R) (states room : ℕ) (queue : Queue R) (i : ℕ) : Type 0 where
+  pub keeps : length queue.row.now ≡ room
+  pub held : states ≤ room → Gathered Wanted made queue.row.now queue.len i
+
+module _ {R : Type 0} {Wanted : ℕ → ℕ → Type 0} {made : ℕ → ℕ → R} {states room : ℕ} where
+  -- Before the first state.
+  pub gathering_none : (queue : Queue R) → length queue.row.now ≡ room → queue.len ≡ 0 → Gathering Wanted made states room queue 0
+  gathering_none queue e empty = record { keeps = e; held = λ fits. gathered_none queue.row.now queue.len empty }
+
+  -- A state that is not wanted.
+  pub gathering_skip : {queue : Queue R} {i : ℕ} → ((g : ℕ) → Wanted i g → ⊥) → Gathering Wanted made states room queue i → Gathering Wanted made states room queue (i + 1)
+  gathering_skip none old = record { keeps = old.keeps; held = λ fits. gathered_skip none (old.held fits) }
+
+  -- One that is, and is put.
+  pub gathering_put : {queue queue' : Queue R} {i g : ℕ} {x : R} (a : Result (Unit {0}) Refusal) → PutAnswered x queue.row.now queue.len queue'.row.now queue'.len a → i < states → Wanted i g → ((k : ℕ) → Wanted i k → g ≡ k) → x ≡ made i g → Gathering Wanted made states room queue i → Gathering Wanted made states room queue' (i + 1)
+  gathering_put {queue} {queue'} {i} {g} {x} a put low want one is old = record {
+    keeps = put_length x queue.row.now queue'.row.now queue.len queue'.len a queue'.fits put ∙ old.keeps;
+    held = λ fits. gathered_more a put (omega (arith, old.keeps)) want one is (old.held fits);
+  }

@@ -40,17 +40,20 @@ impl<B: Blank, W: Wish> Last<B, W> {
         if budget > MOST_MOVES {
             return Err(Refusal::BudgetTooLarge);
         }
-        let mut least = self.search.least_queued(&self.blank, costs);
+        let Last {
+            blank,
+            wish,
+            search,
+        } = self;
+        let mut least = search.least_queued(blank, costs);
         for moves in 0..budget {
-            if let Some(word) = self.search.look() {
+            if let Some(word) = search.look() {
                 return Ok(Worked { word, moves });
             }
-            least = self
-                .search
-                .one_move(&self.blank, &self.wish, least, costs, wishes);
+            least = search.one_move(blank, wish, least, costs, wishes);
         }
         Ok(Worked {
-            word: self.search.look().unwrap_or(Word::Spent),
+            word: search.look().unwrap_or(Word::Spent),
             moves: budget,
         })
     }

@@ -1,10 +1,7 @@
-use Rattle.std.proofs.Common.{◌≡◌, ◌≤◌, length}
+use Rattle.std.proofs.Common.{length}
 use Rattle.planner.specs.Lasts.{search_state}
 use Rattle.planner.proofs.Queued.{CostsBelow}
 use Rattle.planner.proofs.search.Search.least_queued.Given as goal
 
 abbrev pub invariant-loop-u : goal.invariant-loop-u
-invariant-loop-u g l =
-    (length l.queue.row.now ≡ length l.initial.queue.row.now)
-    × ((g.B.Blank.meaning l.blank).states ≤ length l.initial.queue.row.now
-    → CostsBelow (g.B.Blank.meaning l.blank) (search_state l.self) l.queue.row.now l.queue.len l.u)
+invariant-loop-u g l = CostsBelow (g.B.Blank.meaning l.blank) (search_state l.self) (length l.fn.row) l.queue l.u

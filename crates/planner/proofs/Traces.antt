@@ -1,6 +1,8 @@
 -- A chain followed back, state by state, and written from its end.
-use Rattle.std.proofs.Common.{◌≡◌, ℕ, ◌+◌, ◌<◌, ◌≤◌, List, [], ◌∷◌, ◌++◌, length, take, drop, set, Some, None, sym, refl, ap, ◌∙◌, subst, inl, inr, append_assoc, append-nil, arith}
+use Rattle.std.proofs.Common.{◌≡◌, ℕ, ◌+◌, ◌<◌, ◌≤◌, List, [], ◌∷◌, ◌++◌, length, take, drop, set, Some, None, sym, refl, ap, ◌∙◌, subst, inl, inr, append_assoc, append-nil, arith, zero, suc, Option, IfSome, IsSomeAnd, ◌⊎◌, ◌-◌}
 use lib.Seq.{take-set-lt}
+use Rattle.std.proofs.lemmas.Option.{IfSome_then, same_Some}
+use Rattle.std.proofs.lemmas.Bool.{cases_lt}
 use Rattle.std.proofs.lemmas.List.{length_push, length-take, length-take-le, drop-set, drop_all}
 use Rattle.course.specs.declared.machine.Reach.{Reach}
 use Rattle.course.specs.declared.machine.Mark.{Mark}
@@ -61,6 +63,31 @@ module _ (mark : ℕ → Mark) where
   -- More states cannot be counted than the chain has.
   pub back_few : {at i len : ℕ} → Back at i len → i ≤ len
   back_few old = omega (arith, old.count, chain_some old.chain)
+
+  -- A trace has a state at each place, or none: the first is n, and what each gives is the next, or none at its end.
+  module _ {n : ℕ} {path : List ℕ} (at : ℕ → Option ℕ) (first : IfSome (at 0) (λ x. Some n ≡ Some x)) (step : (k : ℕ) → 0 < k → IfSome (at k) (λ y. IsSomeAnd (at (k - 1)) (λ x. origin_of (mark x) ≡ Some y))) (chain : Chain mark n path) where
+    back_next : (k : ℕ) (a b : Option ℕ) → IfSome a (λ x. Back x (k + 1) (length path)) → IfSome b (λ y. IsSomeAnd a (λ x. origin_of (mark x) ≡ Some y)) → IfSome b (λ y. Back y (suc k + 1) (length path))
+    back_next k a None old step = tt
+    back_next k None (Some y) old step = absurd step
+    back_next k (Some x) (Some y) old step = subst (λ (i : ℕ). Back y i (length path)) (omega arith) (back_more step old)
+
+    -- It goes back along the chain.
+    back_at : (k : ℕ) → IfSome (at k) (λ x. Back x (k + 1) (length path))
+    back_at zero = IfSome_then (at 0) first (λ x e. subst (λ (y : ℕ). Back y (0 + 1) (length path)) (same_Some n x e) (subst (λ (i : ℕ). Back n i (length path)) (omega arith) (back_first chain)))
+    back_at (suc k) =
+        let before : suc k - 1 ≡ k = omega arith in
+        back_next k (at k) (at (suc k)) (back_at k) (subst (λ (j : ℕ). IfSome (at (suc k)) (λ y. IsSomeAnd (at j) (λ x. origin_of (mark x) ≡ Some y))) before (step (suc k) (omega arith)))
+
+    -- Cut off at 1,024 states, it is as long as a chain that is no longer.
+    pub trace_length : (len : ℕ) → len ≤ 1024 → 0 < len → ((k : ℕ) → k < len → IsSomeAnd (at k) (λ _. Unit {0})) → ((k : ℕ) → len < 1024 → len ≡ k + 1 → IsSomeAnd (at k) (λ x. origin_of (mark x) ≡ None)) → length path ≤ 1024 → len ≡ length path
+    trace_length len few some held end long =
+        let last : len ≡ len - 1 + 1 = omega arith in
+        last ∙ by (len - 1) (at (len - 1)) (back_at (len - 1)) (held (len - 1) (omega arith)) (λ low. end (len - 1) (omega arith) last) (omega arith) (cases_lt (len - 1 + 1) 1024)
+      where
+        by : (k : ℕ) (o : Option ℕ) → IfSome o (λ x. Back x (k + 1) (length path)) → IsSomeAnd o (λ _. Unit {0}) → (k + 1 < 1024 → IsSomeAnd o (λ x. origin_of (mark x) ≡ None)) → k + 1 ≤ 1024 → (k + 1 < 1024) ⊎ (1024 ≤ k + 1) → k + 1 ≡ length path
+        by k None back some end few cases = absurd some
+        by k (Some x) back some end few (inl low) = back_all (end low) back
+        by k (Some x) back some end few (inr high) = omega (arith, back_few back)
 
   -- WRITING
 

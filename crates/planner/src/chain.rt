@@ -3,8 +3,9 @@ ghost use Rattle.std.specs.Prelude.{◌≡◌, ℕ, ◌+◌, ◌<◌, ◌≤◌,
 ghost use Rattle.course.specs.Machine.{Chain, News};
 ghost use Rattle.planner.specs.Lasts.{marks_of, reach_of, origin_of};
 
-use crate::bench::Bench;
+use crate::bench::{Bench, STATES};
 use course::{Mark, Reach};
+use std::iter;
 
 impl Bench {
     // How a state was reached, where it is seen.
@@ -38,17 +39,13 @@ impl Bench {
         ensures few { result ≤ 1024 }
         ensures is { (path : List ℕ) → Chain (marks_of self.now.marks.items) n path → length path ≤ 1024 → result ≡ length path }
     {
-        let mut at = n;
-        for i in 1..1025 {
-            match self.origin(at) {
-                Some(u) => at = u,
-                None => return i,
-            }
-        }
-        1024
+        iter::successors(Some(n), |&at| self.origin(at))
+            .take(STATES)
+            .count() as u32
     }
 
-    // Writes the chain that ends at n, of len states, into the path.
+    // Writes the chain that ends at n, of len states, into the path. A loop, and no chain of iterators: each write borrows the whole bench,
+    // whose marks lead on.
     pub(crate) fn write_chain(&mut self, n: u32, len: u32)
         ensures path { (path : List ℕ) → Chain (marks_of self.old.marks.items) n path → length path ≡ len → len ≤ 1024 → take len self.new.path.items ≡ path }
         ensures marks { self.new.marks ≡ self.old.marks }

@@ -10,7 +10,8 @@ mod expand;
 mod one_move;
 mod scan;
 
-// The standing route: its cost, and how many states of the bench's path are its own.
+// The standing route: its cost, and how many states of the bench's path are its own. No call takes memory from the heap, so the path stays in
+// the bench and its length beside it.
 #[derive(Clone, Copy, Debug, PartialEq, Eq)]
 pub(crate) struct Incumbent {
     pub(crate) cost: u32,

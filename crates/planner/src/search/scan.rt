@@ -44,7 +44,7 @@ impl Search {
         Some(g + h)
     }
 
-    // The least sum of the live states, by looking at each: clamp and ceiling are lent no row.
+    // The least sum of the live states, by looking at each, for clamp and ceiling, which are lent no row for a queue.
     fn least<B: Blank>(&self, blank: &B) -> Option<u32>
         ensures { Inside (B.meaning blank.now) (search_state self.now)
             → FoundLeast (B.meaning blank.now) (search_state self.now) result }

@@ -1,5 +1,5 @@
 // The bench: the memory of one search.
-ghost use Rattle.std.specs.Prelude.{◌≡◌, ℕ, ◌≤◌, replicate, IfOk, vec_len, slice_index_or, slice_set};
+ghost use Rattle.std.specs.Prelude.{◌≡◌, IfOk, vec_len, slice_index_or, slice_set};
 ghost use Rattle.course.specs.declared.machine.Mark.TheVariants.{Unseen};
 ghost use Rattle.planner.specs.Idle.{Idle};
 

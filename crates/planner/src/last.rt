@@ -12,8 +12,8 @@ pub use route::Told;
 pub use show::Shown;
 pub use work::Worked;
 
-// A search over a blank under a wish, neither of which it alters. It must be lifted: it cannot be let go. The calls name it by its fields and
-// not by a model: a model would be equal for lasts with unlike benches, and a refusal promises that nothing at all is altered.
+// A search over a blank under a wish, neither of which it alters. It must be lifted: it cannot be let go. It has no
+// model: one that is the state of the machine would not tell lasts with unlike benches apart, and a refusal promises that nothing is altered.
 pub struct Last<B, W> {
     blank: B,
     wish: W,

@@ -1,5 +1,5 @@
 // The ratio: how far above a bound a cost may lie.
-ghost use Rattle.std.specs.Prelude.{◌≡◌, ℕ, ◌*◌, ◌≤◌, MatchResult};
+ghost use Rattle.std.specs.Prelude.{◌≡◌, ◌*◌, ◌≤◌, MatchResult};
 ghost use Rattle.std.specs.Bool.{Decides};
 ghost use Rattle.course.specs.Refusals.{number_of};
 ghost use Rattle.course.specs.Calls.{Allowed};

@@ -1,6 +1,6 @@
 // A search, apart from the blank that it runs over and the wish that it runs under: those are lent to it. What it does stands in the modules
 // below, since the specs that they cite name the struct.
-ghost use Rattle.std.specs.Prelude.{ℕ, ◌≤◌};
+ghost use Rattle.std.specs.Prelude.{◌≤◌};
 
 use crate::bench::Bench;
 use crate::ratio::Ratio;

@@ -1,5 +1,5 @@
 // The choice of the state that a move closes.
-ghost use Rattle.std.specs.Prelude.{◌≡◌, ℕ, ◌+◌, ◌*◌, ◌<◌, ◌≤◌, length, MatchOption};
+ghost use Rattle.std.specs.Prelude.{◌≡◌, ℕ, ◌≤◌, length, MatchOption};
 ghost use Rattle.course.specs.Machine.{Focal, Chosen, numbers};
 ghost use Rattle.wish.specs.Wished.{order_of};
 ghost use Rattle.planner.specs.Lasts.{search_state};

@@ -1,11 +1,11 @@
 // The places of the chosen state, tried one after the other.
-ghost use Rattle.std.specs.Prelude.{◌≡◌, ℕ, ◌+◌, ◌*◌, ◌<◌, ◌≤◌, true, false, List, [], ◌∷◌, ◌++◌, length, take, None as nowhere, slice_index_or};
+ghost use Rattle.std.specs.Prelude.{◌≡◌, ℕ, ◌+◌, ◌<◌, ◌≤◌, List, [], ◌∷◌, ◌++◌, length, take, None as nowhere, slice_index_or};
 ghost use Rattle.course.specs.Blanks.{Leads, Walk};
-ghost use Rattle.course.specs.Machine.{Chain, News, Tried, Cuts, stands};
+ghost use Rattle.course.specs.Machine.{Chain, Tried, Cuts, stands};
 ghost use Rattle.course.proofs.SoundMarks.{SoundMarks};
 ghost use Rattle.course.proofs.Marks.{Within};
 ghost use Rattle.course.proofs.Moves.{During};
-ghost use Rattle.planner.specs.Lasts.{search_state, marks_of};
+ghost use Rattle.planner.specs.Lasts.{search_state};
 
 use crate::search::{Incumbent, Search};
 use blank::Blank;

@@ -1,5 +1,5 @@
 // One move, and the look before it.
-ghost use Rattle.std.specs.Prelude.{◌≡◌, ℕ, ◌+◌, ◌*◌, ◌<◌, ◌≤◌, true, false, length, MatchOption};
+ghost use Rattle.std.specs.Prelude.{◌<◌, ◌≤◌, length, MatchOption};
 ghost use Rattle.course.specs.Machine.{limit as state_limit, Move};
 ghost use Rattle.course.specs.Calls.{Finished, Met as Near};
 ghost use Rattle.course.proofs.Floor.{Held};

@@ -1,5 +1,5 @@
 // What the marks say of one state, and of all: the live states, the least sum and the floor.
-ghost use Rattle.std.specs.Prelude.{◌≡◌, ℕ, ◌<◌, ◌≤◌, length, MatchOption};
+ghost use Rattle.std.specs.Prelude.{◌≡◌, ℕ, ◌≤◌, length, MatchOption};
 ghost use Rattle.course.specs.Blanks.{Meaning};
 ghost use Rattle.course.specs.Machine.{limit as state_limit, sum, Live, Raised};
 ghost use Rattle.planner.specs.Lasts.{search_state};

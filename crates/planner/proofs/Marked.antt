@@ -10,7 +10,7 @@ use Rattle.course.specs.Machine.{State, Order, Raised, fresh}
 use Rattle.course.specs.Calls.{Life, clamped}
 use Rattle.course.proofs.Marks.{put, put_same, put_other}
 use Rattle.course.proofs.SoundMarks.{SoundMarks, marks_first, seen_in}
-use Rattle.planner.specs.Lasts.{marks_of}
+use Rattle.planner.specs.Searches.{marks_of}
 use Rattle.planner.specs.Scans.{Inside}
 
 -- A write of one mark, state by state.

@@ -8,7 +8,7 @@ use Rattle.course.specs.declared.machine.Reach.{Reach}
 use Rattle.course.specs.declared.machine.Mark.{Mark}
 use Rattle.course.specs.Machine.{Seen, Chain, root, link}
 use Rattle.course.proofs.Chains.{Before, some_none}
-use Rattle.planner.specs.Lasts.{origin_of}
+use Rattle.planner.specs.Searches.{origin_of}
 
 -- What stands there once at is written at j.
 written : {at j len : ℕ} (row : List ℕ) → j < len → len ≤ length row → drop j (take len (set row j at)) ≡ at ∷ drop (j + 1) (take len row)

@@ -9,9 +9,10 @@ use Rattle.course.proofs.Floor.{Held, moved_held}
 use Rattle.course.proofs.Bounded.{PaidBy, paid_move, few_moves}
 use Rattle.course.proofs.Lives.{life_held, life_paid}
 use Rattle.course.proofs.Words.{words_meant}
+use Rattle.planner.specs.Lives.{HasLife}
 use Rattle.planner.specs.Calls.{AcceptedWork}
 use Rattle.course.proofs.Works.{Ran, not_yet, one_more, ran_stops}
-use Rattle.planner.specs.Lasts.{Stops}
+use Rattle.planner.specs.Searches.{Stops}
 use Rattle.planner.specs.Scans.{FoundLeast}
 
 -- i moves have been made from s, the last of them to y.
@@ -75,12 +76,12 @@ module _ {m : Meaning} {ord : Order} {s : State} {i : ℕ} {y : State} where
 pub working_at : {m : Meaning} {ord : Order} {s y : State} {i j : ℕ} → i ≡ j → Working m ord s i y → Working m ord s j y
 working_at {m} {ord} {s} {y} e now = subst (λ (k : ℕ). Working m ord s k y) e now
 
--- An accepted work, where its rows and its budget are allowed and, after every life, it worked.
-pub accepted_work : {m : Meaning} {ord : Order} {s z : State} {budget cost_row wish_row count : ℕ} {word : Word} → Lawful m → m.states ≤ cost_row → m.states ≤ wish_row → budget ≤ 65535 → ((cs : List (Call × Answer)) → Life m ord cs s → Works m ord budget s word count z) → AcceptedWork m ord s budget cost_row wish_row word count z
-accepted_work {m} {ord} {s} {z} {budget} {cost_row} {wish_row} {count} {word} law costs wishes low worked = record {
+-- An accepted work of a last, where its rows and its budget are allowed and, after every life, it worked.
+pub accepted_work : {m : Meaning} {ord : Order} {s z : State} {budget cost_row wish_row count : ℕ} {word : Word} → Lawful m → HasLife m ord s → m.states ≤ cost_row → m.states ≤ wish_row → budget ≤ 65535 → ((cs : List (Call × Answer)) → Life m ord cs s → Works m ord budget s word count z) → AcceptedWork m ord s budget cost_row wish_row word count z
+accepted_work {m} {ord} {s} {z} {budget} {cost_row} {wish_row} {count} {word} law lived costs wishes low worked = record {
   cost_room = costs;
   wish_room = wishes;
   allowed = low;
-  does = λ cs life. works costs wishes low (worked cs life);
-  meant = λ cs life. words_meant m ord law cs s life budget cost_row wish_row count word z (works costs wishes low (worked cs life));
+  does = record { some = lived; every = λ cs life. works costs wishes low (worked cs life) };
+  meant = record { some = lived; every = λ cs life. words_meant m ord law cs s life budget cost_row wish_row count word z (works costs wishes low (worked cs life)) };
 }

@@ -7,15 +7,12 @@ use Rattle.course.specs.declared.refusal.Refusal.{Refusal}
 use Rattle.course.specs.Refusals.{number_of}
 use Rattle.course.specs.Blanks.{Meaning}
 use Rattle.course.specs.Machine.{State, Order}
-use Rattle.course.specs.Calls.{Call, work, ratio, ceiling, show, route, Answer, worked, set, shown, told, refused, Does, Life}
-use Rattle.course.specs.Promises.{Meant, TrueShowing, TrueRoute}
+use Rattle.course.specs.Calls.{work, ratio, ceiling, show, route, worked, set, shown, told, refused, Does}
+use Rattle.course.specs.Promises.{LowerBound, Meant, TrueShowing, TrueRoute}
+use Rattle.planner.specs.Lives.{AfterLives}
 use Rattle.planner.specs.declared.last.work.Worked.{Worked}
 use Rattle.planner.specs.declared.last.show.Shown.{Shown}
 use Rattle.planner.specs.declared.last.route.Told.{Told}
-
--- P holds after every life that led to s.
-abbrev pub AfterLives : Meaning → Order → State → (List (Call × Answer) → Type 0) → Type 0
-AfterLives m ord s P = (cs : List (Call × Answer)) → Life m ord cs s → P cs
 
 -- WORK
 
@@ -52,7 +49,9 @@ CeilingAnswered m ord s c (Err e) z = Does m ord s (ceiling c) (refused (number_
 
 pub record ShowAnswered (m : Meaning) (ord : Order) (s : State) (r : Shown) : Type 0 where
   pub does : Does m ord s show (shown r.cost r.floor r.moves r.ceiling r.p r.q) s
-  -- no route costs less than the floor, a cost is that of a route, and the moves are those that the works answered
+  -- no route costs less than the floor
+  pub floor_under : LowerBound m r.floor
+  -- a cost is that of a route, and the moves are those that the works answered
   pub truly : AfterLives m ord s (λ cs. TrueShowing m cs r.cost r.floor r.moves)
 
 -- ROUTE
@@ -63,7 +62,9 @@ pub record AcceptedRoute (m : Meaning) (ord : Order) (s : State) (row : List ℕ
   -- len is the number of the states, which were written first; the entries after them are as they were
   pub counted : length (take t.len after) ≡ t.len
   pub rest : drop t.len after ≡ drop t.len row
-  -- what was written is a route of the blank, at the cost told, and no route costs less than the floor
+  -- no route costs less than the floor
+  pub floor_under : LowerBound m t.floor
+  -- what was written is a route of the blank, at the cost told
   pub truly : AfterLives m ord s (λ cs. TrueRoute m (length row) (take t.len after) t.cost t.floor)
 
 -- A refused one leaves the row as it was.

@@ -1,7 +1,7 @@
 // The chain of a state: itself, the state it was reached from, and so on back. It is written into the bench's path.
 ghost use Rattle.std.specs.Prelude.{◌≡◌, ℕ, ◌≤◌, true, false, List, length, take};
 ghost use Rattle.course.specs.Machine.{Chain, News};
-ghost use Rattle.planner.specs.Lasts.{marks_of, reach_of, origin_of};
+ghost use Rattle.planner.specs.Searches.{marks_of, reach_of, origin_of};
 
 use crate::bench::{Bench, STATES};
 use course::{Mark, Reach};

@@ -9,6 +9,7 @@ mod choose;
 mod expand;
 mod one_move;
 mod scan;
+mod work;
 
 // The standing route: its cost, and how many states of the bench's path are its own. No call takes memory from the heap, so the path stays in
 // the bench and its length beside it.

@@ -1,4 +1,4 @@
-// Work: moves, until a look or the budget ends them.
+// Work, or why it is refused.
 ghost use Rattle.std.specs.Prelude.{◌≡◌, length, OnErr};
 ghost use Rattle.wish.specs.Wished.{order_of};
 ghost use Rattle.planner.specs.Lasts.{state_of};
@@ -40,21 +40,9 @@ impl<B: Blank, W: Wish> Last<B, W> {
         if budget > MOST_MOVES {
             return Err(Refusal::BudgetTooLarge);
         }
-        let Last {
-            blank,
-            wish,
-            search,
-        } = self;
-        let mut least = search.least_queued(blank, costs);
-        for moves in 0..budget {
-            if let Some(word) = search.look() {
-                return Ok(Worked { word, moves });
-            }
-            least = search.one_move(blank, wish, least, costs, wishes);
-        }
-        Ok(Worked {
-            word: search.look().unwrap_or(Word::Spent),
-            moves: budget,
-        })
+        Ok(
+            self.search
+                .work(&self.blank, &self.wish, budget, costs, wishes),
+        )
     }
 }

@@ -2,7 +2,7 @@
 ghost use Rattle.std.specs.Prelude.{◌≡◌, ℕ, ◌≤◌, length, MatchOption};
 ghost use Rattle.course.specs.Machine.{Focal, Chosen, numbers};
 ghost use Rattle.wish.specs.Wished.{order_of};
-ghost use Rattle.planner.specs.Lasts.{search_state};
+ghost use Rattle.planner.specs.Searches.{search_state};
 ghost use Rattle.planner.specs.Scans.{Inside};
 
 use crate::search::Search;

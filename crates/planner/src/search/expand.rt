@@ -5,7 +5,7 @@ ghost use Rattle.course.specs.Machine.{Chain, Tried, Cuts, stands};
 ghost use Rattle.course.proofs.SoundMarks.{SoundMarks};
 ghost use Rattle.course.proofs.Marks.{Within};
 ghost use Rattle.course.proofs.Moves.{During};
-ghost use Rattle.planner.specs.Lasts.{search_state};
+ghost use Rattle.planner.specs.Searches.{search_state};
 
 use crate::search::{Incumbent, Search};
 use blank::Blank;

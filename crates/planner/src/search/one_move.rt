@@ -4,7 +4,7 @@ ghost use Rattle.course.specs.Machine.{limit as state_limit, Move};
 ghost use Rattle.course.specs.Calls.{Finished, Met as Near};
 ghost use Rattle.course.proofs.Floor.{Held};
 ghost use Rattle.wish.specs.Wished.{order_of};
-ghost use Rattle.planner.specs.Lasts.{search_state, Stops};
+ghost use Rattle.planner.specs.Searches.{search_state, Stops};
 ghost use Rattle.planner.specs.Scans.{FoundLeast};
 
 use crate::search::Search;

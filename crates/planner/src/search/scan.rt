@@ -2,7 +2,7 @@
 ghost use Rattle.std.specs.Prelude.{◌≡◌, ℕ, ◌≤◌, length, MatchOption};
 ghost use Rattle.course.specs.Blanks.{Meaning};
 ghost use Rattle.course.specs.Machine.{limit as state_limit, sum, Live, Raised};
-ghost use Rattle.planner.specs.Lasts.{search_state};
+ghost use Rattle.planner.specs.Searches.{search_state};
 ghost use Rattle.planner.specs.Scans.{Inside, FoundLeast};
 
 use crate::search::Search;

@@ -3,7 +3,7 @@ use Rattle.std.specs.Option.{option_map}
 use Rattle.std.proofs.lemmas.Bool.{cases_lt}
 use Rattle.std.proofs.lemmas.Option.{none-some, IfSome_then}
 use borrow.Author.Tests.{tests}
-use Rattle.planner.specs.Lasts.{marks_of, origin_of}
+use Rattle.planner.specs.Searches.{marks_of, origin_of}
 use Rattle.planner.proofs.Traces.{trace_length}
 use Rattle.planner.proofs.bench.Bench.chain_length.Goals as goal
 

@@ -1,5 +1,5 @@
 use Rattle.std.proofs.Common.{◌≡◌, ℕ, ◌+◌, ◌-◌, ◌<◌, List, length, take, vec_items, sym, refl, ap, ◌∙◌, subst, arith, rules}
-use Rattle.planner.specs.Lasts.{marks_of, origin_of}
+use Rattle.planner.specs.Searches.{marks_of, origin_of}
 use Rattle.planner.proofs.Traces.{Writing, writing_first, writing_more, writing_last, writing_none}
 use Rattle.planner.proofs.bench.Bench.write_chain.Goals as goal
 

@@ -1,6 +1,6 @@
 use Rattle.std.proofs.Common.{◌≡◌, ℕ, ◌≤◌, List, length, vec_items}
 use Rattle.course.specs.Machine.{Chain}
-use Rattle.planner.specs.Lasts.{marks_of}
+use Rattle.planner.specs.Searches.{marks_of}
 use Rattle.planner.proofs.Traces.{Writing}
 use Rattle.planner.proofs.bench.Bench.write_chain.Given as goal
 

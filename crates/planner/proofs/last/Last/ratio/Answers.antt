@@ -4,7 +4,11 @@ use Rattle.course.specs.Machine.{with_ratio}
 use Rattle.course.specs.Calls.{Does, ratio, set, agrees, no_ratio}
 use Rattle.wish.specs.Wished.{order_of}
 use Rattle.planner.specs.Lasts.{state_of}
+use Rattle.planner.proofs.Lived.{led_by}
 use Rattle.planner.proofs.last.Last.ratio.Goals as goal
+
+pub invariant_of-self : goal.invariant_of-self
+invariant_of-self g c = ((c.args.self.now.search.low, tt), (led_by (agrees c.in_ok-self.field-0.allowed) c.args.self.now.lived, tt))
 
 pub returns-in_err-self-clause-answer : goal.returns-in_err-self-clause-answer
 returns-in_err-self-clause-answer g c =

@@ -4,8 +4,9 @@ use Rattle.std.proofs.lemmas.List.{length-take-le, take_at, drop_at}
 use Rattle.std.proofs.lemmas.Result.{err_from_is_err_and}
 use Rattle.course.specs.declared.refusal.Refusal.TheVariants.{NoRoute}
 use Rattle.course.specs.Calls.{no_room, no_route}
-use Rattle.planner.specs.Lasts.{standing_of}
+use Rattle.planner.specs.Searches.{standing_of}
 use Rattle.course.proofs.Answers.{does_route}
+use Rattle.planner.proofs.Lived.{floor_lived}
 use Rattle.planner.proofs.Tells.{tells_as}
 use Rattle.planner.proofs.last.Last.route.Goals as goal
 
@@ -39,5 +40,6 @@ returns g c =
       does = does;
       counted = ap length front ∙ long;
       rest = drop_at c.copy_from_slice.new.self (drop (length (take len c.path.result.now)) row) len (ap length wrote ∙ long) ∙ ap (λ k. drop k row) counted;
-      truly = λ cs life. does_route (g.B.Blank.lawful c.args.self.now.blank) life does;
+      floor_under = floor_lived (g.B.Blank.lawful c.args.self.now.blank) c.args.self.now.lived;
+      truly = record { some = c.args.self.now.lived; every = λ cs life. does_route (g.B.Blank.lawful c.args.self.now.blank) life does };
     }

@@ -1,7 +1,7 @@
 use Rattle.std.proofs.Common.{◌≡◌, ℕ, ◌+◌, List, [], ◌∷◌, ◌++◌, length, take, vec_items, sym, ap, ◌∙◌, subst, arith}
 use Rattle.std.proofs.lemmas.List.{take_more_set}
 use Rattle.course.specs.Blanks.{Walk}
-use Rattle.planner.specs.Lasts.{search_state, marks_of}
+use Rattle.planner.specs.Searches.{search_state, marks_of}
 use Rattle.planner.proofs.Arrives.{stands_as}
 use Rattle.planner.proofs.search.Search.arrive.Goals as goal
 

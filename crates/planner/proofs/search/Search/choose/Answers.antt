@@ -1,6 +1,6 @@
 use Rattle.std.proofs.Common.{◌+◌, length, ap, sym, subst, arith}
 use Rattle.queue.specs.declared.row_queue.Queue.{Queue}
-use Rattle.planner.specs.Lasts.{search_state}
+use Rattle.planner.specs.Searches.{search_state}
 use Rattle.planner.proofs.Gathers.{gathering_none, gathering_skip, taken_ok}
 use Rattle.planner.proofs.Chooses.{RanksBelow, choose_more, choose_first, choose_none}
 use Rattle.planner.proofs.search.Search.choose.Goals as goal

@@ -1,5 +1,5 @@
 use Rattle.std.proofs.Common.{length}
-use Rattle.planner.specs.Lasts.{search_state}
+use Rattle.planner.specs.Searches.{search_state}
 use Rattle.planner.proofs.Chooses.{RanksBelow}
 use Rattle.planner.proofs.search.Search.choose.Given as goal
 

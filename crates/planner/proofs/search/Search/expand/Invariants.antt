@@ -1,7 +1,7 @@
 use Rattle.std.proofs.Common.{take, drop}
 use Rattle.course.specs.Machine.{Cuts}
 use Rattle.course.proofs.Moves.{During}
-use Rattle.planner.specs.Lasts.{search_state}
+use Rattle.planner.specs.Searches.{search_state}
 use Rattle.planner.proofs.search.Search.expand.Given as goal
 
 abbrev pub invariant-loop-place : goal.invariant-loop-place

@@ -4,7 +4,7 @@ use Rattle.std.proofs.lemmas.Iterator.{YieldsList-from_range}
 use Rattle.std.proofs.lemmas.Iterator.Consumers.{YieldsList-from_filter_map, min_from_yields_List}
 use Rattle.std.proofs.lemmas.Iterator.Adapters.{option_map_id}
 use borrow.Author.Tests.{tests}
-use Rattle.planner.specs.Lasts.{search_state}
+use Rattle.planner.specs.Searches.{search_state}
 use Rattle.planner.proofs.Scans.{Scanned, live_sum, live_sum_is, scan_all, scan_ends}
 use Rattle.planner.proofs.search.Search.least.Goals as goal
 

@@ -1,7 +1,7 @@
 use Rattle.std.proofs.Common.{◌+◌, length, ap, sym, subst, arith}
 use Rattle.queue.specs.declared.row_queue.Queue.{Queue}
 use Rattle.rank.specs.declared.cost.CostRank.{CostRank}
-use Rattle.planner.specs.Lasts.{search_state}
+use Rattle.planner.specs.Searches.{search_state}
 use Rattle.planner.proofs.Gathers.{gathering_none, gathering_skip, taken_ok}
 use Rattle.planner.proofs.Queued.{CostsBelow, cost_more, cost_found, cost_none}
 use Rattle.planner.proofs.search.Search.least_queued.Goals as goal

@@ -1,5 +1,5 @@
 use Rattle.std.proofs.Common.{length}
-use Rattle.planner.specs.Lasts.{search_state}
+use Rattle.planner.specs.Searches.{search_state}
 use Rattle.planner.proofs.Queued.{CostsBelow}
 use Rattle.planner.proofs.search.Search.least_queued.Given as goal
 

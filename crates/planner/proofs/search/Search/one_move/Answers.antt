@@ -1,7 +1,7 @@
 use Rattle.std.proofs.Common.{◌<◌, length, vec_items, sym, ap, ◌∙◌, arith}
 use Rattle.course.specs.declared.machine.Mark.TheVariants.{Closed}
 use Rattle.course.proofs.Floor.{live_in}
-use Rattle.planner.specs.Lasts.{search_state, marks_of, standing_of}
+use Rattle.planner.specs.Searches.{search_state, marks_of, standing_of}
 use Rattle.std.proofs.lemmas.Option.{MatchOption-at_some, MatchOption-at_none}
 use Rattle.planner.proofs.Marked.{marked_set, marks_inside}
 use Rattle.planner.proofs.OneMove.{shuts_as, least_focal, moves_from}

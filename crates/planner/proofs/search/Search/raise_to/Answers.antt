@@ -1,4 +1,4 @@
-use Rattle.planner.specs.Lasts.{search_state}
+use Rattle.planner.specs.Searches.{search_state}
 use Rattle.planner.proofs.Scans.{raised_by}
 use Rattle.planner.proofs.search.Search.raise_to.Goals as goal
 

@@ -1,6 +1,6 @@
 use Rattle.std.proofs.Common.{◌<◌, length, vec_items, sym, ap, ◌∙◌, arith}
 use Rattle.course.specs.Blanks.{Leads}
-use Rattle.planner.specs.Lasts.{search_state, marks_of, standing_of}
+use Rattle.planner.specs.Searches.{search_state, marks_of, standing_of}
 use Rattle.planner.proofs.Marked.{marked_set}
 use Rattle.planner.proofs.Tries.{marks_as, try_empty, try_dear, try_keeps, try_opens, try_arrives}
 use Rattle.planner.proofs.search.Search.try_place.Goals as goal

@@ -10,6 +10,7 @@ use Rattle.course.proofs.Bounded.{PaidBy, paid_move, few_moves}
 use Rattle.course.proofs.Lives.{life_held, life_paid}
 use Rattle.course.proofs.Words.{words_meant}
 use Rattle.planner.specs.Lives.{HasLife}
+use Rattle.planner.proofs.Surely.{surely_meant}
 use Rattle.planner.specs.Calls.{AcceptedWork}
 use Rattle.course.proofs.Works.{Ran, not_yet, one_more, ran_stops}
 use Rattle.planner.specs.Searches.{Stops}
@@ -83,5 +84,5 @@ accepted_work {m} {ord} {s} {z} {budget} {cost_row} {wish_row} {count} {word} la
   wish_room = wishes;
   allowed = low;
   does = record { some = lived; every = λ cs life. works costs wishes low (worked cs life) };
-  meant = record { some = lived; every = λ cs life. words_meant m ord law cs s life budget cost_row wish_row count word z (works costs wishes low (worked cs life)) };
+  meant = surely_meant lived (λ cs life. words_meant m ord law cs s life budget cost_row wish_row count word z (works costs wishes low (worked cs life)));
 }

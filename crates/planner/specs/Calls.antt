@@ -1,6 +1,6 @@
 -- What the calls of a last answer, for every state of a last and every input: the calls' contracts. s is the state that a call finds, z the one
--- that it leaves. What a call does is told by the machine's rules (`Does`), and what its answer means by the promises. An accepted work and an
--- accepted ceiling are spoken of after every life that led to s; clamping begins a life and every call goes on with one, so every last has one.
+-- that it leaves. What a call does is told by the machine's rules (`Does`), and what its answer means by the promises. Some life led to every
+-- last; what needs to know which (the calls that came before, and how an accepted work or ceiling goes on from there) is said of each that did.
 use Rattle.std.specs.Prelude.{◌≡◌, ℕ, ◌≤◌, List, length, take, drop, Ok, Err, Result}
 use Rattle.course.specs.declared.machine.Word.{Word}
 use Rattle.course.specs.declared.refusal.Refusal.{Refusal}
@@ -24,7 +24,7 @@ pub record AcceptedWork (m : Meaning) (ord : Order) (s : State) (budget cost_row
   pub allowed : budget ≤ 65535
   pub does : AfterLives m ord s (λ cs. Does m ord s (work budget cost_row wish_row) (worked word moves) z)
   -- what done, met and spent mean
-  pub meant : AfterLives m ord s (λ cs. Meant m budget word moves z)
+  pub meant : Meant m budget word moves z
 
 abbrev pub WorkAnswered : Meaning → Order → State → ℕ → ℕ → ℕ → Result Worked Refusal → State → Type 0
 WorkAnswered m ord s budget cost_row wish_row (Ok x) z = AcceptedWork m ord s budget cost_row wish_row x.word x.moves z

@@ -11,7 +11,7 @@ use rank::CostRank;
 use wish::Wish;
 
 // How a work ended, and the moves that it made.
-#[derive(Clone, Copy)]
+#[derive(Clone, Copy, Debug, PartialEq, Eq)]
 pub struct Worked {
     pub word: Word,
     pub moves: u32,

@@ -84,7 +84,7 @@ impl fmt::Display for Spaced<'_> {
 }
 
 // What a text holds that is accepted.
-fn list(heap: Global, document: &Document) -> Result<String, AllocError>
+fn list(alloc: Global, document: &Document) -> Result<String, AllocError>
     requires { Shape (rows_of document.now) }
     ensures { IfOk result (λ s. string_bytes s ≡ listing (rows_of document.now) (length document.now.orders.items)) }
 {
@@ -95,18 +95,18 @@ fn list(heap: Global, document: &Document) -> Result<String, AllocError>
     let cuts = Cuts { rows };
     let estimates = Spaced(rows.estimates);
     let orders = document.orders.len();
-    format!(in heap;
+    format!(in alloc;
         "states {states}\nstart {start}\ngoal {goal}\n{cuts}estimates{estimates}\norders {orders}\n"
     )
 }
 
 // What carve prints for a text: what the text holds, or its fault. Only memory can fail.
-pub fn answer(heap: Global, text: &[u8]) -> Result<String, AllocError>
+pub fn answer(alloc: Global, text: &[u8]) -> Result<String, AllocError>
     ensures { IfOk result (λ s. Prints text.now (string_bytes s)) }
 {
-    match read(heap, text) {
-        Ok(document) => list(heap, &document),
-        Err(ReadError::AtFault(fault)) => format!(in heap; "{fault}\n"),
+    match read(alloc, text) {
+        Ok(document) => list(alloc, &document),
+        Err(ReadError::AtFault(fault)) => format!(in alloc; "{fault}\n"),
         Err(ReadError::NoMemory(error)) => Err(error),
     }
 }

@@ -12,7 +12,8 @@ use rank::CostRank;
 use wish::Wish;
 
 impl Search {
-    // Moves until the search is done, the ratio is met or the budget is spent.
+    // Moves until the search is done, the ratio is met or the budget is spent. Blank, wish and the two rows stay parameters by themselves, here
+    // and in a move: behind that each goes on alone.
     pub(crate) fn work<B: Blank, W: Wish>(
         &mut self,
         blank: &B,

@@ -1,8 +1,8 @@
 // Work, or why it is refused.
-ghost use Rattle.std.specs.Prelude.{◌≡◌, length, OnErr};
+ghost use Rattle.std.specs.Prelude.{◌≡◌, ◌≤◌, length, OnErr};
 ghost use Rattle.wish.specs.Wished.{order_of};
 ghost use Rattle.planner.specs.Lasts.{state_of};
-ghost use Rattle.planner.specs.Calls.{WorkAnswered};
+ghost use Rattle.planner.specs.Calls.{AcceptedWork, WorkAnswered};
 
 use crate::last::Last;
 use blank::Blank;
@@ -40,9 +40,18 @@ impl<B: Blank, W: Wish> Last<B, W> {
         if budget > MOST_MOVES {
             return Err(Refusal::BudgetTooLarge);
         }
-        Ok(
-            self.search
-                .work(&self.blank, &self.wish, budget, costs, wishes),
-        )
+        Ok(self.work_on(budget, costs, wishes))
+    }
+
+    // Works, with a budget and rows that are allowed.
+    fn work_on(&mut self, budget: u32, costs: &mut [CostRank], wishes: &mut [W::Rank]) -> Worked
+        requires rows { ((B.meaning self.old.blank).states ≤ length costs.old) × ((B.meaning self.old.blank).states ≤ length wishes.old) }
+        requires allowed { budget ≤ 65535 }
+        ensures worked { AcceptedWork (B.meaning self.old.blank) (order_of (W.ranked self.old.wish) W.Rank.Rank.precedes) (state_of self.old) budget (length costs.old) (length wishes.old) result.word result.moves (state_of self.new) }
+        ensures blank { self.new.blank ≡ self.old.blank }
+        ensures wish { self.new.wish ≡ self.old.wish }
+    {
+        self.search
+            .work(&self.blank, &self.wish, budget, costs, wishes)
     }
 }

@@ -1,6 +1,7 @@
 -- What the calls of a last answer, for every state of a last and every input: the calls' contracts. s is the state that a call finds, z the one
 -- that it leaves. What a call does is told by the machine's rules (`Does`), and what its answer means by the promises. Some life led to every
--- last; what needs to know which (the calls that came before, and how an accepted work or ceiling goes on from there) is said of each that did.
+-- last. What is decided, or has one proof, is said outright; how an accepted work or ceiling goes on, that a list of states is a route, and what
+-- the calls before answered is said of every life that led to s.
 use Rattle.std.specs.Prelude.{◌≡◌, ℕ, ◌≤◌, List, length, take, drop, Ok, Err, Result}
 use Rattle.course.specs.declared.machine.Word.{Word}
 use Rattle.course.specs.declared.refusal.Refusal.{Refusal}

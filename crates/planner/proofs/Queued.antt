@@ -8,9 +8,9 @@ use Rattle.rank.specs.declared.cost.CostRank.{CostRank}
 use Rattle.rank.specs.Orders.{by_state}
 use Rattle.course.specs.Blanks.{Meaning}
 use Rattle.course.specs.Machine.{State, sum, Live, NoLive}
-use Rattle.planner.specs.Scans.{Inside, FoundLeast}
+use Rattle.planner.specs.Scans.{Inside, FoundLeast, FirstRanked, none, some}
 use Rattle.planner.proofs.Scans.{FoundSum, live_one}
-use Rattle.planner.proofs.Gathers.{PutAnswered, Gathering, gathering_put, gathered_takes, gathered_empty}
+use Rattle.planner.proofs.Gathers.{Ranks, FirstWanted, first_wanted}
 
 -- The rank of a live state, how ranks are ordered, and the state of a rank.
 abbrev pub cost_rank : Meaning → ℕ → ℕ → CostRank
@@ -23,35 +23,35 @@ abbrev pub state_of : CostRank → ℕ
 state_of x = x.state
 
 module _ (m : Meaning) (s : State) where
-  -- A queue over a row of so much room holds the cost ranks of the live states below i.
-  abbrev pub CostsBelow : ℕ → Queue CostRank → ℕ → Type 0
-  CostsBelow room queue i = Gathering (Live m s) (cost_rank m) m.states room queue i
+  -- What may be answered of u: its cost rank, where it is live.
+  abbrev pub LiveRank : ℕ → Option CostRank → Type 0
+  LiveRank = Ranks (Live m s) (cost_rank m)
 
-  -- One live state more.
-  pub cost_more : {room : ℕ} {queue queue' : Queue CostRank} {i g t : ℕ} (a : Result (Unit {0}) Refusal) → PutAnswered (record { sum = t; state = i }) queue.row.now queue.len queue'.row.now queue'.len a → i < m.states → Live m s i g → t ≡ sum m i g → CostsBelow room queue i → CostsBelow room queue' (i + 1)
-  cost_more {i = i} a put low live is old = gathering_put a put low live (λ k other. live_one live other) (ap (λ x. record { sum = x; state = i }) is) old
+  module _ {states : ℕ} (answers : ℕ → Option CostRank → Type 0) (all : states ≡ m.states) (inside : Inside m s) where
+    -- Whose rank is first is live, and its sum, which is found, is the least.
+    pub cost_found : {n : ℕ} (found : Option ℕ) → FirstRanked state_of no_dearer answers states (Some n) → FoundSum m s n found → ((u : ℕ) (o : Option CostRank) → u < states → answers u o → LiveRank u o) → FoundLeast m s found
+    cost_found found (some n chosen) sum_found ranks = at found sum_found
+      where
+        first : FirstWanted state_of no_dearer (Live m s) (cost_rank m) states n
+        first = first_wanted {made = cost_rank m} ranks (λ u a b x y. live_one x y) chosen
 
-  module _ {room : ℕ} {queue : Queue CostRank} {i : ℕ} (fits : m.states ≤ room) (end : m.states ≤ i) (inside : Inside m s) (all : CostsBelow room queue i) where
-    -- What is taken is live, and its sum, which is found, is the least.
-    pub cost_found : {row' : List CostRank} {n k' : ℕ} (found : Option ℕ) → Taken state_of no_dearer n queue.row.now queue.len row' k' → FoundSum m s n found → FoundLeast m s found
-    cost_found None taken dead =
-        let first = gathered_takes queue.fits (all.held fits) taken in
-        absurd (dead first.g (subst (λ (v : ℕ). Live m s v first.g) (sym first.is) first.wanted))
-    cost_found {n = n} (Some t) taken (g, live, is) =
-        let first = gathered_takes queue.fits (all.held fits) taken in
-        let same : first.u ≡ n = sym first.is in
-        let here : Live m s n first.g = subst (λ (v : ℕ). Live m s v first.g) same first.wanted in
-        let cost : sum m first.u first.g ≡ t = ap (λ v. sum m v first.g) same ∙ ap (sum m n) (live_one here live) ∙ sym is in
-        record {
-          at = first.u;
-          at_g = first.g;
-          live = first.wanted;
-          is = cost;
-          none_less = λ v b other.
-              let low : v < i = omega (arith, end, inside v _ other.is_open) in
-              omega (arith, cost, leb-true (sum m first.u first.g) (sum m v b) (and_parts _ _ (first.first v b low other)).0);
-        }
+        here : Live m s n first.g
+        here = subst (λ (v : ℕ). Live m s v first.g) (sym first.is) first.wanted
 
-    -- Where nothing can be taken, no state is live.
-    pub cost_none : queue.len ≡ 0 → NoLive m s
-    cost_none empty u g live = gathered_empty empty (all.held fits) (omega (arith, end, inside u _ live.is_open)) live
+        at : (found : Option ℕ) → FoundSum m s n found → FoundLeast m s found
+        at None dead = absurd (dead first.g here)
+        at (Some t) (g, live, is) =
+            let cost : sum m n first.g ≡ t = ap (sum m n) (live_one here live) ∙ sym is in
+            record {
+              at = n;
+              at_g = first.g;
+              live = here;
+              is = cost;
+              none_less = λ v b other.
+                  let least : sum m first.u first.g ≤ sum m v b = leb-true (sum m first.u first.g) (sum m v b) (and_parts _ _ (first.first v b (omega (arith, all, inside v _ other.is_open)) other)).0 in
+                  omega (arith, ap (λ v. sum m v first.g) first.is, cost, least);
+            }
+
+    -- Where no state has a rank, none is live.
+    pub cost_none : FirstRanked state_of no_dearer answers states None → ((u : ℕ) (o : Option CostRank) → u < states → answers u o → LiveRank u o) → NoLive m s
+    cost_none (none h) ranks u g live = let low : u < states = omega (arith, all, inside u _ live.is_open) in ranks u None low (h u low) g live

@@ -7,6 +7,7 @@ use crate::ratio::Ratio;
 
 mod choose;
 mod expand;
+mod first;
 mod one_move;
 mod scan;
 mod work;

@@ -6,9 +6,9 @@ ghost use Rattle.planner.specs.Searches.{search_state};
 ghost use Rattle.planner.specs.Scans.{Inside};
 
 use crate::search::Search;
+use crate::search::first::first_of;
 use blank::Blank;
 use course::Numbers;
-use queue::Queue;
 use wish::Wish;
 
 impl Search {
@@ -45,12 +45,8 @@ impl Search {
             ((u g : ℕ) → Focal (B.meaning blank.now) (search_state self.now) least u g → ⊥)
             (λ n. (g : ℕ) × Chosen (B.meaning blank.now) (order_of (W.ranked wish.now) W.Rank.Rank.precedes) (search_state self.now) least n g) }
     {
-        let mut queue = Queue::over(row);
-        for u in 0..blank.states() {
-            if let Some(told) = self.focal(blank, u, least) {
-                let _ = queue.put(wish.rank(&told));
-            }
-        }
-        queue.take().ok()
+        first_of(blank.states(), row, |u| {
+            self.focal(blank, u, least).map(|told| wish.rank(&told))
+        })
     }
 }

@@ -6,9 +6,9 @@ ghost use Rattle.planner.specs.Searches.{search_state};
 ghost use Rattle.planner.specs.Scans.{Inside, FoundLeast};
 
 use crate::search::Search;
+use crate::search::first::first_of;
 use blank::Blank;
 use course::Mark;
-use queue::Queue;
 use rank::CostRank;
 
 impl Search {
@@ -58,16 +58,13 @@ impl Search {
             → (B.meaning blank.now).states ≤ length row.old
             → FoundLeast (B.meaning blank.now) (search_state self.now) result }
     {
-        let mut queue = Queue::over(row);
-        for u in 0..blank.states() {
-            if let Some(sum) = self.sum(blank, u) {
-                let _ = queue.put(CostRank {
-                    sum: u64::from(sum),
-                    state: u,
-                });
-            }
-        }
-        self.sum(blank, queue.take().ok()?)
+        let first = first_of(blank.states(), row, |u| {
+            self.sum(blank, u).map(|sum| CostRank {
+                sum: u64::from(sum),
+                state: u,
+            })
+        })?;
+        self.sum(blank, first)
     }
 
     // Raises the floor to the least sum, or to the limit where no state is live.

@@ -1,9 +1,6 @@
 -- The least sum, by a queue of the live states' cost ranks.
-use Rattle.std.proofs.Common.{◌≡◌, ℕ, ◌+◌, ◌<◌, ◌≤◌, Bool, leb, List, Some, None, Option, Result, sym, ap, ◌∙◌, subst, arith}
+use Rattle.std.proofs.Common.{◌≡◌, ℕ, ◌<◌, ◌≤◌, Bool, leb, Some, None, Option, sym, ap, ◌∙◌, subst, arith}
 use Rattle.std.proofs.lemmas.Bool.{leb-true, and_parts}
-use Rattle.course.specs.declared.refusal.Refusal.{Refusal}
-use Rattle.queue.specs.declared.row_queue.Queue.{Queue}
-use Rattle.queue.specs.Held.{Taken}
 use Rattle.rank.specs.declared.cost.CostRank.{CostRank}
 use Rattle.rank.specs.Orders.{by_state}
 use Rattle.course.specs.Blanks.{Meaning}

@@ -5,7 +5,8 @@ use Rattle.course.specs.declared.machine.Reach.{Reach}
 use Rattle.course.specs.declared.machine.Mark.TheVariants.{Open}
 use Rattle.course.specs.Machine.{State, sum, Live, Least, NoLive}
 
--- Every open state is a state of the blank, so that a scan of those meets it.
+-- Every open state is a state of the blank, so that a scan of those meets it. It is said of a blank and a search, which are lent to a scan apart:
+-- so it is a premise of each scan's contract, and no fact that a struct could keep.
 abbrev pub Inside : Meaning → State → Type 0
 Inside m s = (u : ℕ) (r : Reach) → s.mark u ≡ Open r → u < m.states
 

@@ -38,7 +38,7 @@ impl Bench {
             .unwrap_or(Mark::Unseen)
     }
 
-    // Marks a state, where the bench has it.
+    // Marks a state, where the bench has it. (set_step does the same to the path: one function over either row would add more lines than it saves.)
     pub(crate) fn set_mark(&mut self, state: u32, mark: Mark)
         ensures marks { self.new.marks.items ≡ slice_set self.old.marks.items state mark }
         ensures path { self.new.path ≡ self.old.path }

@@ -23,7 +23,7 @@ fn cut_cost<B: Blank>(blank: &B, u: u32, v: u32) -> u32
 }
 
 impl Search {
-    // What the walk by the first len states of the path costs.
+    // What the walk by the first len states of the path costs. A loop, and no sum(): that each sum on the way fits is what its invariant shows.
     fn path_cost<B: Blank>(&self, blank: &B, len: u32) -> u32
         requires { len ≤ 1024 }
         ensures low { result ≤ 1024000 }

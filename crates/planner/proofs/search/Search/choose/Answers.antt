@@ -1,4 +1,4 @@
-use Rattle.std.proofs.Common.{◌≡◌, arith, rules}
+use Rattle.std.proofs.Common.{arith, rules}
 use Rattle.planner.specs.Searches.{search_state}
 use Rattle.planner.proofs.Chooses.{chooses}
 use Rattle.planner.proofs.search.Search.choose.Goals as goal

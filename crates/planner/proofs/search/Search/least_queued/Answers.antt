@@ -1,4 +1,4 @@
-use Rattle.std.proofs.Common.{◌≡◌, arith, rules}
+use Rattle.std.proofs.Common.{arith, rules}
 use Rattle.planner.specs.Searches.{search_state}
 use Rattle.planner.proofs.Queued.{cost_found, cost_none}
 use Rattle.planner.proofs.search.Search.least_queued.Goals as goal

@@ -40,6 +40,7 @@ impl Whole<'_> {
         requires { (u e : ℕ) → Holds (rows_in self.now.rows) u e → F.pre is_good u e }
         ensures { FirstFailing (rows_in self.now.rows) (λ u e b. F.post is_good u e b) result }
     {
+        // two loops: a `find` inside would need a clause of its own, since its closure calls a parameter
         for u in 0..self.rows.estimates.len() {
             for e in self.entries(u) {
                 if !is_good(u, e) {

@@ -20,7 +20,8 @@ const MOST_COST: u32 = 1000;
 const MOST_ESTIMATE: u32 = 1023000;
 
 // The four rows of a table, lent for reading, with its start and goal, as they come. There is an estimate for each state. A cut
-// of a state is an entry of `targets` and of `costs`: those of state u stand from `firsts[u]` up to `firsts[u + 1]`.
+// of a state is an entry of `targets` and of `costs`: those of state u stand from `firsts[u]` up to `firsts[u + 1]`. They stay four rows,
+// not one of cuts: a table lends four rows of numbers, so that none is copied.
 #[derive(Clone, Copy)]
 pub struct TableRows<'a> {
     pub firsts: &'a [u32],
@@ -102,12 +103,11 @@ impl<'a> TableRows<'a> {
         (self.start as usize) < n && (self.goal as usize) < n && self.start != self.goal
     }
 
-    // The first entry whose cost is bad. This one check stays a loop over the slice with its index, as a rule of the project has it.
+    // The first entry whose cost is bad. A loop over the slice with its index: the costs are looked at in turn, each with its entry.
     fn first_bad_cost(&self) -> Option<usize>
         ensures { First (Bad (rows_in self.now) 8) result }
     {
-        let costs = self.costs;
-        for (i, cost) in costs.iter().enumerate() {
+        for (i, cost) in self.costs.iter().enumerate() {
             if !is_good_cost(*cost) {
                 return Some(i);
             }

@@ -1,6 +1,5 @@
 // Knots: a layer that marks states, so that no cut leads into them.
-ghost use Rattle.std.specs.Prelude.{◌≡◌, ℕ, ◌+◌, ◌||◌, ◌==◌, ◌≢◌, [], Ok};
-ghost use Rattle.arrayvec.specs.ArrayVec.{array_vec_len};
+ghost use Rattle.std.specs.Prelude.{◌≡◌, ℕ, ◌+◌, ◌||◌, ◌==◌, ◌≢◌, [], length, Ok};
 ghost use Rattle.layers.specs.Knotted.{knotted, among};
 ghost use Rattle.layers.specs.KnottedLaws.{knotted_lawful};
 ghost use Rattle.layers.specs.Marking.{may_be_marked};
@@ -58,7 +57,7 @@ impl<B: Blank> Knots<B> {
     // Marks a state where it may be marked, and that state only; elsewhere gives the layer back as it was.
     pub fn mark(mut self, state: u32) -> Knots<B>
         ensures below { result.below ≡ self.below }
-        ensures marked { may_be_marked (B.meaning self.below) self.knots.items state ≡ Ok tt → (array_vec_len result.knots ≡ array_vec_len self.knots + 1) × ((s : ℕ) → among result.knots.items s ≡ (state == s || among self.knots.items s)) }
+        ensures marked { may_be_marked (B.meaning self.below) self.knots.items state ≡ Ok tt → (length result.knots.items ≡ length self.knots.items + 1) × ((s : ℕ) → among result.knots.items s ≡ (state == s || among self.knots.items s)) }
         ensures refused { (may_be_marked (B.meaning self.below) self.knots.items state ≢ Ok tt) → result ≡ self }
     {
         if self.may_mark(state).is_ok() {

@@ -3,11 +3,11 @@
 #![tactic(auto)]
 
 mod knots;
-mod may_mark;
+mod marking;
 mod rounding;
 #[cfg(test)]
 mod tests;
 
 pub use knots::Knots;
-pub use may_mark::mark_number;
+pub use marking::mark_number;
 pub use rounding::{Rounding, Unrounded};

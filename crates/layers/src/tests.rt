@@ -2,7 +2,7 @@
 ghost use Rattle.layers.specs.Corridor.{corridor, corridor_lawful};
 
 use crate::knots::Knots;
-use crate::may_mark::mark_number;
+use crate::marking::mark_number;
 use crate::rounding::Rounding;
 use blank::Blank;
 use course::Refusal;

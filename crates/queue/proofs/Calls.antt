@@ -7,7 +7,8 @@ use Rattle.std.proofs.lemmas.List.Edits.{swap_is, swapped_from_swap, length-swap
 use Rattle.std.proofs.lemmas.List.Sorted.{IsPermutation-swap, IsPermutation-append_left, length_permutation}
 use Rattle.std.specs.List.{swap}
 use Rattle.std.specs.List.Sorted.{IsPermutation}
-use Rattle.queue.specs.Held.{IsEarliest, Parts, Taken, Struck}
+use Rattle.queue.specs.Held.{Taken, Struck}
+use Rattle.queue.specs.Inside.{IsEarliest, Parts}
 
 module _ {R : Type 0} where
   -- the earliest one, at b, was exchanged with the last held one, and x, its state told, was read at the last place

@@ -10,7 +10,7 @@ use Rattle.std.specs.Iterator.{FoldTurn, ReducesItems}
 use Rattle.std.specs.List.{All, FoldsTo, enumerate_from}
 use denote.Param.Members.{Mut}
 use Rattle.rank.specs.Orders.{LawfulOrder}
-use Rattle.queue.specs.Held.{IsEarliest}
+use Rattle.queue.specs.Inside.{IsEarliest}
 
 -- A rank with its place, as the search goes over them.
 abbrev pub Placed : Type 0 → Type 0

@@ -5,7 +5,7 @@ use Rattle.std.proofs.lemmas.List.Sorted.{IsPermutation-refl, IsPermutation-tran
 use Rattle.std.proofs.lemmas.Bool.{cases_eq}
 use Rattle.std.specs.List.{SwappedAt}
 use Rattle.std.specs.List.Sorted.{IsPermutation}
-use Rattle.queue.specs.Held.{Parts}
+use Rattle.queue.specs.Inside.{Parts}
 
 -- ys is the list so far. Of its ranks none from i on and below stay carries the state s, and each from stay on does.
 pub record Parting {R : Type 0} (state : R → ℕ) (s : ℕ) (xs ys : List R) (i stay : ℕ) : Type 0 where

@@ -1,7 +1,7 @@
 // A queue of ranks over a borrowed row.
 ghost use Rattle.std.specs.Prelude.{◌≡◌, ◌≤◌, length, take, MatchOption, MatchResult};
 ghost use Rattle.course.specs.Refusals.{number_of};
-ghost use Rattle.queue.specs.Held.{IsEarliest, Parts};
+ghost use Rattle.queue.specs.Inside.{IsEarliest, Parts};
 
 use course::Refusal;
 use rank::Rank;
@@ -56,13 +56,13 @@ impl<'q, R: Rank + Copy> Queue<'q, R> {
             (λ _. Puts rank self.old self.new)
             (λ e. (number_of e ≡ 39) × IsFull self.old × IsUnchanged self.old self.new) }
     {
-        if self.len < self.row.len() {
-            self.row[self.len] = rank;
-            self.len += 1;
-            Ok(())
-        } else {
-            Err(Refusal::QueueFull)
+        // `get_mut` and `?` would need a proof that the refused row comes back as it was; this needs none
+        if self.len == self.row.len() {
+            return Err(Refusal::QueueFull);
         }
+        self.row[self.len] = rank;
+        self.len += 1;
+        Ok(())
     }
 
     // Where the first rank stands; of several that each are no later than all others, where the last of them does.
@@ -87,6 +87,7 @@ impl<'q, R: Rank + Copy> Queue<'q, R> {
         let last = self.len - 1;
         self.row.swap(best, last);
         self.len = last;
+        // read out first: an entry of a row that lies in a struct with a ghost field cannot be lent
         let taken = self.row[last];
         Ok(taken.state())
     }

@@ -1,5 +1,5 @@
 use Rattle.std.proofs.Common.{length-take-le, take, ap, ◌∙◌, sym, arith, rules}
-use Rattle.queue.specs.Held.{IsEarliest}
+use Rattle.queue.specs.Inside.{IsEarliest}
 use Rattle.queue.proofs.Calls.{taken_out}
 use Rattle.queue.proofs.row_queue.Queue.take.Goals as goal
 

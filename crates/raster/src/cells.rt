@@ -8,7 +8,7 @@ const MOST_AREA: u64 = 1024;
 
 // Bytes, one a cell, in lines of one width, with a start and a goal, as they come. A cell's number is its line times the width plus its
 // column.
-#[derive(Clone, Copy)]
+#[derive(Clone, Copy, PartialEq, Eq, Debug)]
 pub struct Cells<'a> {
     pub bytes: &'a [u8],
     pub width: u32,

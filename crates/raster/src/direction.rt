@@ -1,7 +1,7 @@
 ghost use Rattle.raster.specs.Rastered.{Directs};
 
 // The four directions from a cell of a raster, in the order of its places.
-#[derive(Clone, Copy)]
+#[derive(Clone, Copy, PartialEq, Eq, Debug)]
 pub enum Direction {
     Up,
     Right,
@@ -10,7 +10,7 @@ pub enum Direction {
 }
 
 // A place past the fourth is in no direction.
-#[derive(Clone, Copy)]
+#[derive(Clone, Copy, PartialEq, Eq, Debug)]
 pub struct NoDirection;
 
 // The direction of a place.

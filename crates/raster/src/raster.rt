@@ -64,7 +64,8 @@ impl<'a> Raster<'a> {
     }
 }
 
-// The smallest byte above 0, and 255, the largest, where there is none.
+// The smallest byte above 0, and 255, the largest, where there is none. The clause `small` is a fact of the type of `bytes`, and a ghost field
+// of Raster: it is told here, since a check knows it of a slice that is a parameter, but not of one in a struct such as Cells.
 fn least_cost(bytes: &[u8]) -> u8
     ensures is { result ≡ least_cost bytes.now }
     ensures small { (k : ℕ) → slice_index bytes.now k ≤ 255 }

@@ -1,5 +1,5 @@
 -- What is printed is what the verdict says.
-use Rattle.std.proofs.Common.{◌≡◌, ℕ, List, [], ◌∷◌, ◌++◌, append_assoc, length, Err, vec_items, sym, ap, ◌∙◌, subst}
+use Rattle.std.proofs.Common.{◌≡◌, ℕ, List, [], ◌∷◌, ◌++◌, length, Err, vec_items, sym, ap, ◌∙◌, subst}
 use Rattle.course.specs.Refusals.{number_of}
 use Rattle.table.specs.Table.{Shape}
 use Rattle.text.specs.Layers.{layer_number}
@@ -27,7 +27,7 @@ accepted_printed text d out a e =
     (e ∙ ap (λ r. listing r (length (vec_items d.orders))) a.held.rows ∙ ap (λ os. listing (table_rows a.is) (length os)) a.held.orders)
 
 pub refused_printed : (text : List ℕ) (f : Fault) (out : List ℕ) → Answers text (Err (AtFault f)) → out ≡ fault_text f ++ 10 ∷ [] → Prints text out
-refused_printed text f out r e = prints text out (refused (layer_number f.layer) (number_of f.cause) f.place) r.says (e ∙ simp append_assoc)
+refused_printed text f out r e = prints text out (refused (layer_number f.layer) (number_of f.cause) f.place) r.says e
 
 pub accepted_shape : (text : List ℕ) (d : Document) → Accepted text d → Shape (rows_of d)
 accepted_shape text d a = subst Shape (sym a.held.rows) (read_shape a.is a.writes.well)

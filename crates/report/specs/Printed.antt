@@ -3,6 +3,7 @@ use Rattle.std.specs.Prelude.{◌≡◌, ℕ, ◌+◌, ◌-◌, List, [], ◌∷
 use Rattle.std.specs.List.{range_with_len, flat_map, zip}
 use Rattle.table.specs.Table.{Rows, states}
 pub use Rattle.text.specs.FaultText.{spaced}
+use Rattle.text.specs.FaultText.{fault_words}
 use Rattle.text.specs.Rows.{table_rows}
 use Rattle.text.specs.Verdicts.{Verdict, Says, accepted, refused}
 
@@ -10,9 +11,9 @@ use Rattle.text.specs.Verdicts.{Verdict, Says, accepted, refused}
 abbrev pub feed : List ℕ
 feed = 10 ∷ []
 
--- `fault`, then layer, cause and place.
+-- `fault`, then layer, cause and place, in a line.
 abbrev pub fault_numbers : ℕ → ℕ → ℕ → List ℕ
-fault_numbers layer cause place = codes "fault" ++ (spaced layer ++ (spaced cause ++ (spaced place ++ feed)))
+fault_numbers layer cause place = fault_words layer cause place ++ feed
 
 -- A line of a word and a number, and a line of a cut: its state, its target and its cost.
 abbrev pub count_line : List ℕ → ℕ → List ℕ

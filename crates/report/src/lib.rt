@@ -12,7 +12,7 @@ use std::alloc::{AllocError, Global};
 use std::fmt;
 use table::TableRows;
 
-// The cuts of one state: their targets and their costs.
+// The cuts of one state: their targets and their costs. Two slices side by side, since they are parts of the table's rows, lent.
 #[derive(Clone, Copy)]
 struct StateCuts<'a> {
     state: usize,

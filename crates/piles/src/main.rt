@@ -2,7 +2,7 @@
 // estimate and what its places hold. It stands on blank, table, tableblank, raster, layers and course.
 #![tactic(auto)]
 
-use anyhow::anyhow;
+use anyhow::Context;
 use blank::Blank;
 use layers::{Knots, Rounding};
 use raster::{Cells, Raster};
@@ -45,18 +45,16 @@ fn list_table(rt: &HostRuntime) -> anyhow::Result<()> {
         start: 0,
         goal: 3,
     };
-    let Ok(table) = Table::over(rows) else {
-        return Err(anyhow!("the table is refused"));
-    };
+    let table = Table::over(rows).ok().context("the table is refused")?;
     list(rt, "table", &table)
 }
 
 // The raster under two layers: one cell is a knot, and estimates are multiples of 4.
 fn list_pile(rt: &HostRuntime, raster: &Raster<'_>) -> anyhow::Result<()> {
     let knots = Knots::over(raster).mark(5);
-    let Ok(pile) = Rounding::over(knots, 4) else {
-        return Err(anyhow!("the step is refused"));
-    };
+    let pile = Rounding::over(knots, 4)
+        .ok()
+        .context("the step is refused")?;
     list(rt, "rounding over knots over raster", &pile)
 }
 
@@ -69,9 +67,7 @@ fn list_raster(rt: &HostRuntime) -> anyhow::Result<()> {
         start: 0,
         goal: 3,
     };
-    let Ok(raster) = Raster::over(cells) else {
-        return Err(anyhow!("the raster is refused"));
-    };
+    let raster = Raster::over(cells).ok().context("the raster is refused")?;
     list(rt, "raster", &raster)?;
     list_pile(rt, &raster)
 }

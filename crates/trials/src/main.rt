@@ -1,5 +1,6 @@
 // Many texts and their verdicts: for each text on standard input, a line with its fault, or `ok` and how many states, cuts and orders it
-// holds. A text stands there as its length, a line feed, its bytes and a line feed. A test of reader; it stands on reader, text and course.
+// holds. A text stands there as its length, a line feed, its bytes and a line feed. A test of reader, and it stands on reader: crates.txt
+// lists text, table and course too, since reader needs them.
 #![tactic(auto)]
 
 ghost use Rattle.std.specs.Prelude.{◌<◌, ◌≤◌, length, IfSome};

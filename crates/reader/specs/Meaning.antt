@@ -1,5 +1,5 @@
 -- What the reader's marks mean.
-use Rattle.std.specs.Prelude.{◌≡◌, ℕ, ◌+◌, ◌≤◌, Bool, not, ◌||◌, List, length, drop, Ok, Err, Result}
+use Rattle.std.specs.Prelude.{◌≡◌, ℕ, ◌+◌, ◌≤◌, Bool, true, false, not, ◌||◌, List, length, drop, Ok, Err, Result}
 use Rattle.std.specs.Str.Parse.{digits_value}
 use Rattle.std.specs.List.{AllByRecursion}
 use Rattle.course.specs.Refusals.{number_of}
@@ -27,7 +27,7 @@ byte_of LineFeed = 10
 -- The sign of a byte, or the byte where it is no sign.
 abbrev pub IsSignOf : ℕ → Result Sign ℕ → Type 0
 IsSignOf b (Ok s) = byte_of s ≡ b
-IsSignOf b (Err e) = (e ≡ b) × (is_single b ≡ mathlib.Core.Bool.false)
+IsSignOf b (Err e) = (e ≡ b) × (is_single b ≡ false)
 
 -- Whether a byte is of a kind.
 abbrev pub of_kind : Kind → ℕ → Bool
@@ -45,7 +45,7 @@ meant End = end
 
 -- At most seven digits.
 pub record Figures (ds : List ℕ) : Type 0 where
-  pub all : AllByRecursion (λ b. is_digit b ≡ mathlib.Core.Bool.true) ds
+  pub all : AllByRecursion (λ b. is_digit b ≡ true) ds
   pub few : length ds ≤ 7
 
 abbrev pub Written : Token → Type 0

@@ -22,8 +22,9 @@ const LEAST_STATES: u32 = 2;
 
 const MOST_STATES: u32 = 1024;
 
-// What a text holds, in rows of its own: the four rows of its table, start and goal, and the orders. Start and goal stand as TableRows has
-// them: no function takes the two alone, and in a struct of their own they would only be written longer.
+// What a text holds, in rows of its own: the four rows of its table, start and goal, and the orders. The four stand side by side, since they
+// are lent as the rows of a table. Start and goal stand as TableRows has them: no function takes the two alone, and in a struct of their own
+// they would only be written longer.
 #[derive(Drop)]
 pub struct Document {
     pub firsts: Vec<u32>,

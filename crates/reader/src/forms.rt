@@ -12,7 +12,7 @@ use course::Refusal;
 use text::{Fault, Layer};
 
 // What the first line says.
-#[derive(Clone, Copy)]
+#[derive(Clone, Copy, PartialEq, Eq, Debug)]
 pub(crate) struct Head {
     pub(crate) states: u32,
     pub(crate) start: u32,
@@ -20,14 +20,14 @@ pub(crate) struct Head {
 }
 
 // A cut as it is read.
-#[derive(Clone, Copy)]
+#[derive(Clone, Copy, PartialEq, Eq, Debug)]
 pub(crate) struct Cut {
     pub(crate) target: u32,
     pub(crate) cost: u32,
 }
 
 // What is wanted at a place: this sign, this word or this number.
-#[derive(Clone, Copy)]
+#[derive(Clone, Copy, PartialEq, Eq, Debug)]
 pub(crate) enum Want<'w> {
     Sign(Sign),
     Word(&'w [u8]),
@@ -68,7 +68,7 @@ impl<'a> Reader<'a> {
         Ok(())
     }
 
-    // any number
+    // any number (a `let else`, since one of four cases is wanted: `?` has no form for that)
     pub(crate) fn number(&mut self) -> Result<u32, Fault>
         ensures { Reads (a_number ∷ []) one self.old self.new result }
     {

@@ -79,7 +79,7 @@ impl<'a> Reader<'a> {
     {
         let unwanted = self.spaced_opening().err();
         let place = self.at.saturating_sub(1);
-        unwanted.unwrap_or(Fault::new(Layer::Forms, Refusal::TextTooLong, place))
+        unwanted.unwrap_or_else(|| Fault::new(Layer::Forms, Refusal::TextTooLong, place))
     }
 
     // The cuts of one state, and the end of its line.
@@ -123,6 +123,7 @@ impl<'a> Reader<'a> {
     {
         self.opening(b"estimates")?;
         let mut estimates = Vec::new(alloc);
+        // a count of numbers to be read: the closure of a chain would change the reader that it captures
         for _i in 0..states {
             estimates.push(self.spaced_number()?)?;
         }

@@ -96,6 +96,7 @@ fn front(bytes: &[u8]) -> Result<(Token<'_>, usize), Refusal>
         return Ok((Token::End, 0));
     };
     match kind_of(*b) {
+        // a single byte is a sign, as is proved
         Kind::Single => Ok((Token::Sign(Sign::try_from(*b).unwrap()), 1)),
         Kind::Letter => {
             let word = run(bytes, Kind::Letter);

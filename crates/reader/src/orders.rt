@@ -14,7 +14,7 @@ use std::alloc::Global;
 use text::{Fault, Order};
 
 // What an order tells to do: an order before its numbers are read.
-#[derive(Clone, Copy)]
+#[derive(Clone, Copy, PartialEq, Eq, Debug)]
 pub(crate) enum Verb {
     Ratio,
     Work,
@@ -23,7 +23,7 @@ pub(crate) enum Verb {
     Route,
 }
 
-// What a word tells to do, if it is the word of an order.
+// What a word tells to do, if it is the word of an order. No TryFrom: a word that is no order's is no error here, but unwanted as a mark.
 fn verb_of(token: Token<'_>) -> Option<Verb>
     ensures { option_map spoken result ≡ verb_of (meant token.entry) }
 {

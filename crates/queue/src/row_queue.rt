@@ -30,6 +30,7 @@ fn part<R: Rank>(held: &mut [R], struck: u32) -> usize
     stay
 }
 
+// That a call keeps the row (`KeepsRow`) stands in each contract: it ties the queue before to the one after, so no field can hold it.
 impl<'q, R: Rank + Copy> Queue<'q, R> {
     ghost use Rattle.queue.specs.Queues.{KeepsRow, IsUnchanged, IsFull, Puts, Takes, Strikes};
 

@@ -76,7 +76,7 @@ fn badly_written(digits: &[u8]) -> bool
     digits.len() > MOST_DIGITS || matches!(digits, [b'0', _, ..])
 }
 
-// The number that at most seven digits write.
+// The number that at most seven digits write. (A loop and no fold: that no sum is too large is shown on the way.)
 pub(crate) fn value_of(digits: &[u8]) -> u32
     requires { Figures digits.now }
     ensures { result ≡ digits_value 10 digits.now }

@@ -12,7 +12,7 @@ use std::alloc::{AllocError, Global};
 use std::fmt;
 use table::TableRows;
 
-// The cuts of one state: their targets and their costs. Two slices side by side, since they are parts of the table's rows, lent.
+// The cuts of one state: their targets and their costs, which are parts of the two rows that a table lends. Two slices side by side, since they are parts of the table's rows, lent.
 #[derive(Clone, Copy)]
 struct StateCuts<'a> {
     state: usize,

@@ -8,7 +8,7 @@ use blank::Blank;
 use course::Refusal;
 use wish::Wish;
 
-// How many states were written, what the route costs, and the floor.
+// How many states were written, what the route costs, and the floor. (The row is the caller's, and may be longer: so the number stands here.)
 #[derive(Clone, Copy, Debug, PartialEq, Eq)]
 pub struct Told {
     pub len: u32,

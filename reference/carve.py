@@ -1,11 +1,13 @@
 """A second implementation of carve, from the rules in docs/FORMAT.md.
 
 It reads a text from standard input and prints either the one line
-`fault LAYER CAUSE PLACE` or the listing of what the text holds.
+`fault LAYER CAUSE PLACE` or a line for each order of the text.
 """
 
 import sys
 from typing import NamedTuple
+
+import planner
 
 MOST_BYTES = 60_000
 MOST_DIGITS = 7
@@ -68,7 +70,7 @@ class Document(NamedTuple):
     """What an accepted text holds."""
 
     table: Table
-    orders: int
+    orders: list
 
 
 # Layer 1: marks.
@@ -216,9 +218,9 @@ def read_estimates(reader, states):
 def read_order(reader):
     """Reads the line of one order."""
     word = reader.open(*ORDERS)
-    for _ in range(ORDERS[word]):
-        reader.spaced_number()
+    numbers = [reader.spaced_number() for _ in range(ORDERS[word])]
     reader.close_line()
+    return word.decode(), numbers
 
 
 def read_document(text):
@@ -232,10 +234,9 @@ def read_document(text):
         read_state(reader, state, targets, costs)
         firsts.append(len(targets))
     estimates = read_estimates(reader, states)
-    orders = 0
+    orders = []
     while reader.look().kind != "end":
-        read_order(reader)
-        orders += 1
+        orders.append(read_order(reader))
     table = Table(states, start, goal, firsts, targets, costs, estimates)
     return Document(table, orders)
 
@@ -341,22 +342,11 @@ def judge(text):
     return document
 
 
-def listing(document):
-    """The lines that tell what an accepted text holds."""
-    table = document.table
-    yield f"states {table.states}"
-    yield f"start {table.start}"
-    yield f"goal {table.goal}"
-    for entry, state in entries(table):
-        yield f"cut {state} {table.targets[entry]} {table.costs[entry]}"
-    yield "estimates " + " ".join(map(str, table.estimates))
-    yield f"orders {document.orders}"
-
-
 def answer(text):
     """What carve prints for a text."""
     try:
-        lines = list(listing(judge(text)))
+        document = judge(text)
+        lines = list(planner.answers(document.table, document.orders))
     except Fault as fault:
         lines = [str(fault)]
     return "".join(line + "\n" for line in lines)
@@ -369,7 +359,7 @@ def verdict(text):
     except Fault as fault:
         return str(fault)
     table = document.table
-    return f"ok {table.states} {len(table.targets)} {document.orders}"
+    return f"ok {table.states} {len(table.targets)} {len(document.orders)}"
 
 
 def main():

@@ -23,11 +23,13 @@ def random_text(rng):
     draw = rng.randrange(100)
     if draw == 0:
         return "large text", texts.random_large_text(rng)
-    if draw < 20:
+    if draw < 10:
         return "good document", texts.random_plan(rng).text()
-    if draw < 50:
+    if draw < 40:
+        return "search", texts.random_search(rng).text()
+    if draw < 55:
         return "bad table", texts.random_bad_plan(rng).text()
-    if draw < 60:
+    if draw < 65:
         text = texts.random_bad_plan(rng).text()
         return "bad table, mutated", texts.mutate(rng, text)
     text = texts.random_plan(rng).text()

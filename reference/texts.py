@@ -111,6 +111,35 @@ def random_plan(rng, most_states=7):
     return Plan(states, start, goal, cuts, estimates, orders)
 
 
+# Searches: documents whose orders the planner carries out.
+
+
+def random_call(rng):
+    """One order that is refused now and then."""
+    q = rng.randint(1, 9)
+    return rng.choice((
+        f"(ratio {rng.randint(q, 3 * q)} {q})",
+        f"(ratio {rng.choice((1, 1000, 1001))} {rng.randint(0, 2)})",
+        f"(work {rng.randint(0, 3)})",
+        f"(work {rng.randint(0, 40)})",
+        f"(work {rng.choice((65535, 65536))})",
+        f"(ceiling {rng.randint(0, 3000)})",
+        "(show)",
+        "(route)",
+    ))
+
+
+def random_search(rng):
+    """A larger plan with many orders, told of at their end."""
+    states = rng.randint(2, 30)
+    start, goal = rng.sample(range(states), 2)
+    cuts = random_cuts(rng, states, rng.randint(1, 6))
+    estimates = random_estimates(rng, cuts, goal)
+    orders = [random_call(rng) for _ in range(rng.randint(1, 15))]
+    orders += ["(show)", "(route)"]
+    return Plan(states, start, goal, cuts, estimates, orders)
+
+
 # Bad tables.
 
 

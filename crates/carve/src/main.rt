@@ -1,5 +1,5 @@
-// carve reads a text from standard input and prints what it holds, or where it is at fault. All that is decided is decided in report; this
-// only reads and prints. It stands on report.
+// carve reads a text from standard input and prints what its orders are answered, or where it is at fault. All that is decided is decided in
+// report; this only reads and prints. It stands on report.
 #![tactic(auto)]
 
 use report::answer;

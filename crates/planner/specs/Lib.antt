@@ -5,3 +5,4 @@ pub mod Lives
 pub mod Lasts
 pub mod Calls
 pub mod Alike
+pub mod Printed

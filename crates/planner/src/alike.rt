@@ -20,7 +20,7 @@ pub struct Compared {
 
 // Shows two lasts and writes the route of each into a row of its own. Where the blanks mean the same, the wishes are equal and so are the
 // settings, each at equal moves, and the moves, both show the same, and routes that are told are the same.
-pub(crate) fn compare<A: Blank, V: Wish, B: Blank, W: Wish>(
+pub fn compare<A: Blank, V: Wish, B: Blank, W: Wish>(
     first: &Last<A, V>,
     second: &Last<B, W>,
     first_row: &mut [u32],

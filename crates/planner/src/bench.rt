@@ -9,7 +9,7 @@ use std::alloc::{AllocError, Global};
 // As many states as a blank may have.
 pub(crate) const STATES: usize = 1024;
 
-// A mark for each state, and the states of the standing route: two rows of a fixed size, since no call takes memory. It is made once, and serves
+// A mark for each state, and the states of the standing route: two rows of a fixed size, since no call of a last takes memory. It is made once, and serves
 // one last after the other.
 #[derive(Drop)]
 pub struct Bench {

@@ -20,8 +20,7 @@ pub use work::Worked;
 
 // A search over a blank under a wish, neither of which it alters. Some list of calls led to where it is. It must be lifted: it cannot be let go.
 // It has no model: one that is the state of the machine would not tell lasts with unlike benches apart, and a refusal promises that nothing is
-// altered. That a call leaves blank and wish stands in the contract of each
-// that alters a last: a caller knows it from nowhere else.
+// altered. That a call leaves blank and wish stands in the contract of each that alters a last: a caller knows it from nowhere else.
 pub struct Last<B: Blank, W: Wish> {
     blank: B,
     wish: W,

@@ -14,6 +14,7 @@ use course::{Mark, Reach};
 use wish::Wish;
 
 // What lifting a last gives back.
+#[derive(Drop)]
 pub struct Lifted<B, W> {
     pub bench: Bench,
     pub blank: B,
@@ -22,7 +23,7 @@ pub struct Lifted<B, W> {
 
 impl<B: Blank, W: Wish> Last<B, W> {
     // A last over a blank under a wish: a life with no calls yet, whatever lay on the bench.
-    pub(crate) fn clamp(mut bench: Bench, blank: B, wish: W) -> Last<B, W>
+    pub fn clamp(mut bench: Bench, blank: B, wish: W) -> Last<B, W>
         ensures life { Life (B.meaning blank) (order_of (W.ranked wish) W.Rank.Rank.precedes) [] (state_of result) }
         ensures blank { result.blank ≡ blank }
         ensures wish { result.wish ≡ wish }
@@ -46,7 +47,7 @@ impl<B: Blank, W: Wish> Last<B, W> {
     }
 
     // The bench, idle, and what it was clamped with.
-    pub(crate) fn lift(self) -> Lifted<B, W>
+    pub fn lift(self) -> Lifted<B, W>
         ensures idle { Idle result.bench.marks.items result.bench.path.items }
         ensures blank { result.blank ≡ self.blank }
         ensures wish { result.wish ≡ self.wish }

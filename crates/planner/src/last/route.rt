@@ -18,7 +18,7 @@ pub struct Told {
 
 impl<B: Blank, W: Wish> Last<B, W> {
     // Writes the states of the standing route into the row's first entries, or refuses.
-    pub(crate) fn route(&self, row: &mut [u32]) -> Result<Told, Refusal>
+    pub fn route(&self, row: &mut [u32]) -> Result<Told, Refusal>
         ensures { RouteAnswered (B.meaning self.now.blank) (order_of (W.ranked self.now.wish) W.Rank.Rank.precedes) (state_of self.now) row.old result row.new }
     {
         let found = self.search.standing.ok_or(Refusal::NoRoute)?;

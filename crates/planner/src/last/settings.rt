@@ -12,7 +12,7 @@ use wish::Wish;
 
 impl<B: Blank, W: Wish> Last<B, W> {
     // Sets the ratio to p/q, or refuses.
-    pub(crate) fn ratio(&mut self, p: u32, q: u32) -> Result<(), Refusal>
+    pub fn ratio(&mut self, p: u32, q: u32) -> Result<(), Refusal>
         ensures answer { RatioAnswered (B.meaning self.old.blank) (order_of (W.ranked self.old.wish) W.Rank.Rank.precedes) (state_of self.old) p q result (state_of self.new) }
         ensures untouched { OnErr result (self.new ≡ self.old) }
         ensures blank { self.new.blank ≡ self.old.blank }
@@ -23,7 +23,7 @@ impl<B: Blank, W: Wish> Last<B, W> {
     }
 
     // Sets the ceiling, which never rises, and raises the floor under it; or refuses.
-    pub(crate) fn ceiling(&mut self, c: u32) -> Result<(), Refusal>
+    pub fn ceiling(&mut self, c: u32) -> Result<(), Refusal>
         ensures answer { CeilingAnswered (B.meaning self.old.blank) (order_of (W.ranked self.old.wish) W.Rank.Rank.precedes) (state_of self.old) c result (state_of self.new) }
         ensures untouched { OnErr result (self.new ≡ self.old) }
         ensures blank { self.new.blank ≡ self.old.blank }

@@ -20,7 +20,7 @@ pub struct Shown {
 
 impl<B: Blank, W: Wish> Last<B, W> {
     // The standing route's cost, the floor, the moves and the settings.
-    pub(crate) fn show(&self) -> Shown
+    pub fn show(&self) -> Shown
         ensures { ShowAnswered (B.meaning self.now.blank) (order_of (W.ranked self.now.wish) W.Rank.Rank.precedes) (state_of self.now) result }
     {
         Shown {

@@ -1,13 +1,15 @@
 // Work, or why it is refused.
-ghost use Rattle.std.specs.Prelude.{◌≡◌, ◌≤◌, length, OnErr};
+ghost use Rattle.std.specs.Prelude.{◌≡◌, ◌≤◌, length, OnErr, Some};
 ghost use Rattle.wish.specs.Wished.{order_of};
 ghost use Rattle.planner.specs.Lasts.{state_of};
 ghost use Rattle.planner.specs.Calls.{AcceptedWork, WorkAnswered};
+ghost use Rattle.planner.specs.Printed.{worked_text};
 
 use crate::last::Last;
 use blank::Blank;
 use course::{Refusal, Word};
 use rank::CostRank;
+use std::fmt;
 use wish::Wish;
 
 // How a work ended, and the moves that it made.
@@ -17,12 +19,26 @@ pub struct Worked {
     pub moves: u32,
 }
 
+// The word, a space, and the moves.
+impl fmt::Display for Worked {
+    ghost output = { λ w. Some (worked_text w.word w.moves) };
+
+    fn fmt<W: fmt::Write>(&self, f: &mut fmt::Formatter<W>) -> fmt::Result {
+        let moves = self.moves;
+        match self.word {
+            Word::Done => write!(f, "done {moves}"),
+            Word::Met => write!(f, "met {moves}"),
+            Word::Spent => write!(f, "spent {moves}"),
+        }
+    }
+}
+
 // The largest budget.
 const MOST_MOVES: u32 = 65535;
 
 impl<B: Blank, W: Wish> Last<B, W> {
     // Moves until the search is done, the ratio is met or the budget is spent; or refuses.
-    pub(crate) fn work(
+    pub fn work(
         &mut self,
         budget: u32,
         costs: &mut [CostRank],

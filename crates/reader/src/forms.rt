@@ -1,5 +1,5 @@
 // The forms of a text: which mark is wanted where.
-ghost use Rattle.std.specs.Prelude.{◌≡◌, ℕ, [], ◌∷◌};
+ghost use Rattle.std.specs.Prelude.{◌≡◌, ℕ, [], ◌∷◌, OnErr};
 ghost use Rattle.course.specs.declared.refusal.Refusal.TheVariants.{MarkUnwanted};
 ghost use Rattle.text.specs.declared.Layer.TheVariants.{Forms};
 ghost use Rattle.text.specs.Forms.{the_sign, the_word, the_number, a_number, meets};
@@ -56,9 +56,10 @@ pub(crate) fn unwanted(mark: Mark<'_>) -> Fault
 }
 
 impl<'a> Reader<'a> {
-    // Takes the mark in hand, if it is the one wanted.
+    // Takes the mark in hand, if it is the one wanted; a mark that is refused stays.
     pub(crate) fn take(&mut self, want: Want<'_>) -> Result<(), Fault>
-        ensures { Reads (wanted want.entry ∷ []) none self.old self.new result }
+        ensures reads { Reads (wanted want.entry ∷ []) none self.old self.new result }
+        ensures stays { OnErr result (self.new ≡ self.old) }
     {
         let mark = self.peek()?;
         if !mark.token.meets(want) {

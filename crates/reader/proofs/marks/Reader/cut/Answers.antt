@@ -17,4 +17,4 @@ returns-in_err-cost c =
 
 pub returns-in_err-take : goal.returns-in_err-take
 returns-in_err-take c =
-    passes_up _ _ (stopped_then c.in_ok-spaced_opening.ensures (stopped_then c.in_ok-target.ensures (stopped_then c.in_ok-cost.ensures c.in_err-take.ensures))) c.from_residual-in_err-take.ensures.1
+    passes_up _ _ (stopped_then c.in_ok-spaced_opening.ensures (stopped_then c.in_ok-target.ensures (stopped_then c.in_ok-cost.ensures c.in_err-take.ensures.reads))) c.from_residual-in_err-take.ensures.1

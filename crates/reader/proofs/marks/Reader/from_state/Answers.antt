@@ -9,4 +9,4 @@ returns-in_err-opening c =
 
 pub returns-in_err-take : goal.returns-in_err-take
 returns-in_err-take c =
-    passes_up _ _ (stopped_then c.in_ok-opening.ensures (stopped_first (the_number c.args.u ∷ []) c.in_err-take.ensures)) c.from_residual-in_err-take.ensures.1
+    passes_up _ _ (stopped_then c.in_ok-opening.ensures (stopped_first (the_number c.args.u ∷ []) c.in_err-take.ensures.reads)) c.from_residual-in_err-take.ensures.1

@@ -19,12 +19,15 @@ pub struct Queue<'q, R> {
 fn part<R: Rank>(held: &mut [R], struck: u32) -> usize
     ensures { Parts R.state struck held.old held.new result }
 {
+    let mut i = 0;
     let mut stay = held.len();
-    // from the last on, so that each is looked at once; by its place, since it may be exchanged
-    for i in (0..held.len()).rev() {
+    // a while: the rank that comes from the end into a struck one's place is looked at next
+    while i < stay {
         if held[i].state() == struck {
             stay -= 1;
             held.swap(i, stay);
+        } else {
+            i += 1;
         }
     }
     stay

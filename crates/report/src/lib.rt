@@ -2,7 +2,8 @@
 // wish, rank, blank and course.
 #![tactic(auto)]
 
-ghost use Rattle.std.specs.Prelude.{◌≡◌, IfOk, string_bytes};
+ghost use Rattle.std.specs.Prelude.{◌≡◌, IfOk, string_bytes, [], ◌∷◌, ◌++◌};
+ghost use Rattle.text.specs.FaultText.{fault_text};
 ghost use Rattle.report.specs.Printed.{Prints};
 
 mod life;
@@ -13,6 +14,14 @@ mod tests;
 use crate::life::life_of;
 use reader::{ReadError, read};
 use std::alloc::{AllocError, Global};
+use text::Fault;
+
+// The line of a fault.
+fn fault_line(alloc: Global, fault: Fault) -> Result<String, AllocError>
+    ensures { IfOk result (λ s. string_bytes s ≡ fault_text fault ++ 10 ∷ []) }
+{
+    format!(in alloc; "{fault}\n")
+}
 
 // What carve prints for a text: its fault, or what its orders are answered. Only memory can fail.
 pub fn answer(alloc: Global, text: &[u8]) -> Result<String, AllocError>
@@ -20,7 +29,7 @@ pub fn answer(alloc: Global, text: &[u8]) -> Result<String, AllocError>
 {
     match read(alloc, text) {
         Ok(document) => life_of(alloc, &document),
-        Err(ReadError::AtFault(fault)) => format!(in alloc; "{fault}\n"),
+        Err(ReadError::AtFault(fault)) => fault_line(alloc, fault),
         Err(ReadError::NoMemory(error)) => Err(error),
     }
 }

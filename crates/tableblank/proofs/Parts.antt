@@ -1,11 +1,11 @@
 -- The part of a row that a state's entries are.
-use Rattle.std.proofs.Common.{◌≡◌, ℕ, ◌+◌, ◌-◌, ◌<◌, ◌≤◌, ◌⊎◌, List, [], length, get_or, Some, None, drop, slice_range, slice_index_or, sym, ap, ◌∙◌, inl, inr, arith, length-take, length-drop, get_or-take, get_or-drop}
+use Rattle.std.proofs.Common.{◌≡◌, ℕ, ◌+◌, ◌-◌, ◌<◌, ◌≤◌, ◌⊎◌, List, [], length, get_or, Some, None, drop, slice_range, slice_index_or, sym, ap, ◌∙◌, inl, inr, arith, length-take, length-drop, get_or-take, get_or-drop, subst}
 use Rattle.std.proofs.lemmas.List.{get_or_past}
 use Rattle.std.proofs.lemmas.Bool.{cases_lt}
 use Rattle.table.specs.Table.{Rows, states, Passes}
 use Rattle.table.proofs.Firsts.{climbs_to}
 use Rattle.tableblank.specs.Tabled.{first, entries, row}
-use Rattle.tableblank.specs.Laws.{row_at, row_past}
+use Rattle.tableblank.specs.Laws.{row_at, row_past, row_length, passes_lawful}
 use Rattle.tableblank.specs.Passed.{passes_shape}
 
 pub part_length : (xs : List ℕ) (i j : ℕ) → j ≤ length xs → length (slice_range xs i j) ≡ j - i
@@ -49,10 +49,19 @@ module _ (r : Rows) (p : Passes r) (u : ℕ) where
     none_there i (inl h) = sym (row_past r u i (omega (arith, targets_long)))
     none_there i (inr h) = sym (row_past r u i (omega (arith, costs_long)))
 
-    pub cut_there : (i v c : ℕ) → i < length targets → v ≡ get_or targets i 0 → c ≡ get_or costs i 0 → Some (v, c) ≡ slice_index_or (row r u) i None
-    cut_there i v c h e f =
+    -- what stands at i of both parts, the place that is asked for
+    pub cut_there : (i place v c : ℕ) → v ≡ get_or targets i 0 → c ≡ get_or costs i 0 → i < length targets → i ≡ place
+        → Some (v, c) ≡ slice_index_or (row r u) place None
+    cut_there i place v c e f h same =
         let k : i < entries r u = omega (arith, targets_long) in
         let to : v ≡ get_or r.targets (first r u + i) 0 = e ∙ ap (λ xs. get_or xs i 0) t ∙ part_at r.targets (first r u) (first r (u + 1)) i k in
         let cost : c ≡ get_or r.costs (first r u + i) 0 = f ∙ ap (λ xs. get_or xs i 0) s ∙ part_at r.costs (first r u) (first r (u + 1)) i k in
         let here = row_at r u i k in
-        cc
+        subst (λ (j : ℕ). Some (v, c) ≡ slice_index_or (row r u) j None) same cc
+
+-- How many places a state has, by the part of the targets that is its own.
+pub places_are : (r : Rows) (p : Passes r) (u : ℕ) (targets : List ℕ) → targets ≡ slice_range r.targets (first r u) (first r (u + 1))
+    → (length targets ≡ length (row r u)) × (length targets ≤ 1024)
+places_are r p u targets t =
+    let e : length targets ≡ entries r u = ap length t ∙ part_length r.targets (first r u) (first r (u + 1)) (ends_within r p u) in
+    (e ∙ sym (row_length r u), omega (arith, e, row_length r u, (passes_lawful r p).places_most u))

@@ -1,4 +1,5 @@
 // The standing route, told.
+ghost use Rattle.std.specs.Prelude.{◌≡◌, ◌≤◌, ◌++◌, length, drop};
 ghost use Rattle.wish.specs.Wished.{order_of};
 ghost use Rattle.planner.specs.Lasts.{state_of};
 ghost use Rattle.planner.specs.Calls.{RouteAnswered};
@@ -16,6 +17,14 @@ pub struct Told {
     pub floor: u32,
 }
 
+// Writes states over the front of a row that has room for them.
+fn write_over(row: &mut [u32], states: &[u32])
+    requires { length states.now ≤ length row.old }
+    ensures { row.new ≡ states.now ++ drop (length states.now) row.old }
+{
+    row[..states.len()].copy_from_slice(states);
+}
+
 impl<B: Blank, W: Wish> Last<B, W> {
     // Writes the states of the standing route into the row's first entries, or refuses.
     pub fn route(&self, row: &mut [u32]) -> Result<Told, Refusal>
@@ -26,7 +35,7 @@ impl<B: Blank, W: Wish> Last<B, W> {
         if row.len() < path.len() {
             return Err(Refusal::RowTooShort);
         }
-        row[..path.len()].copy_from_slice(path);
+        write_over(row, path);
         Ok(Told {
             len: found.len,
             cost: found.cost,

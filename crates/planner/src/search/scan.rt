@@ -53,6 +53,7 @@ impl Search {
     }
 
     // The least sum of the live states, by a queue of their cost ranks.
+    #[inline(always)]
     pub(crate) fn least_queued<B: Blank>(&self, blank: &B, row: &mut [CostRank]) -> Option<u32>
         ensures { Inside (B.meaning blank.now) (search_state self.now)
             → (B.meaning blank.now).states ≤ length row.old

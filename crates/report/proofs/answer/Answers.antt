@@ -20,6 +20,6 @@ returns-in-Ok c =
 
 pub returns-in-Err-AtFault : goal.returns-in-Err-AtFault
 returns-in-Err-AtFault c =
-    IfOk-weaker c.format.result (λ s. string_bytes s ≡ fault_text c.in-Err-AtFault.fault ++ 10 ∷ []) (λ s. Prints c.args.text.now (string_bytes s))
+    IfOk-weaker c.fault_line.result (λ s. string_bytes s ≡ fault_text c.in-Err-AtFault.fault ++ 10 ∷ []) (λ s. Prints c.args.text.now (string_bytes s))
     (λ s e. refused_printed c.args.text.now c.in-Err-AtFault.fault (string_bytes s) (subst (λ e. Answers c.args.text.now (Err e)) c.in-Err-AtFault.field-0-is c.in-Err-AtFault.ensures.verdict) e)
-    c.format.ensures.ok
+    c.fault_line.ensures

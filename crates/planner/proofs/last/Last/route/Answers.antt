@@ -1,4 +1,4 @@
-use Rattle.std.proofs.Common.{◌≡◌, ◌≤◌, length, take, drop, vec_items, refl, ap, ◌∙◌, arith}
+use Rattle.std.proofs.Common.{◌≡◌, ◌≤◌, ◌++◌, length, take, drop, vec_items, refl, ap, ◌∙◌, arith}
 use Rattle.std.specs.Option.{ok_or}
 use Rattle.std.proofs.lemmas.List.{length-take-le, take_at, drop_at}
 use Rattle.std.proofs.lemmas.Result.{err_from_is_err_and}
@@ -33,13 +33,15 @@ returns g c =
     let long : length (take len path) ≡ len = length-take-le len path fits in
     let same : take len c.path.result.now ≡ take len path = ap (take len) c.path.ensures in
     let counted : length (take len c.path.result.now) ≡ len = ap length same ∙ long in
-    let wrote : c.copy_from_slice.new.self ≡ take len path = c.copy_from_slice.ensures.after ∙ same in
-    let front = take_at c.copy_from_slice.new.self (drop (length (take len c.path.result.now)) row) len (ap length wrote ∙ long) ∙ wrote in
+    let wrote : c.write_over.new.row ≡ take len c.path.result.now ++ drop (length (take len c.path.result.now)) row = c.write_over.ensures in
+    let front : take len c.write_over.new.row ≡ take len path =
+    ap (take len) wrote ∙ take_at (take len c.path.result.now) (drop (length (take len c.path.result.now)) row) len counted ∙ same
+    in
     let does = tells_as (ap (λ o. standing_of o path) c.in_ok-found.ensures.ok_part) (omega (arith, counted, long)) front in
     record {
       does = does;
       counted = ap length front ∙ long;
-      rest = drop_at c.copy_from_slice.new.self (drop (length (take len c.path.result.now)) row) len (ap length wrote ∙ long) ∙ ap (λ k. drop k row) counted;
+      rest = ap (drop len) wrote ∙ drop_at (take len c.path.result.now) (drop (length (take len c.path.result.now)) row) len counted ∙ ap (λ k. drop k row) counted;
       floor_under = floor_lived (g.B.Blank.lawful c.args.self.now.blank) c.args.self.now.lived;
       truly = record { some = c.args.self.now.lived; every = λ cs life. does_route (g.B.Blank.lawful c.args.self.now.blank) life does };
     }

@@ -20,6 +20,7 @@ pub returns : goal.returns
 returns c =
     let x = c.args.self.now in
     let e = c.row.ensures in
-    cut_there (rows_in x.rows) x.sound c.args.state _ _ e.targets e.costs c.args.place _ _ (omega (arith, c.in_ok-get.ensures.lookup))
-    (c.in_ok-get.ensures.lookup.3.1 0)
+    cut_there (rows_in x.rows) x.sound c.args.state _ _ e.targets e.costs _ c.args.place _ _ (c.in_ok-get.ensures.lookup.3.1 0)
     (c.in_ok-get-2.ensures.lookup.3.1 0)
+    (omega (arith, c.in_ok-get.ensures.lookup))
+    (omega (arith, c.in_ok-get.ensures.lookup))

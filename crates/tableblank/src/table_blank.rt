@@ -24,8 +24,8 @@ impl<'a> Table<'a> {
         Ok(Table { rows })
     }
 
-    // The targets and the costs of a state's entries, in their order. A number that is no state has none. (The table's check and a listing cut out
-    // a state's entries too, of rows of which less or more is known.)
+    // The targets and the costs of a state's entries, in their order. A number that is no state has none. (The table's check cuts out a state's
+    // entries too, of rows of which less is known.)
     fn row(&self, state: u32) -> (&'a [u32], &'a [u32])
         ensures targets { result.0.now ≡ slice_range (rows_in self.now.rows).targets (first (rows_in self.now.rows) state) (first (rows_in self.now.rows) (state + 1)) }
         ensures costs { result.1.now ≡ slice_range (rows_in self.now.rows).costs (first (rows_in self.now.rows) state) (first (rows_in self.now.rows) (state + 1)) }

@@ -69,9 +69,10 @@ impl<'a> Reader<'a> {
         Ok(())
     }
 
-    // any number (a `let else`, since one of four cases is wanted: `?` has no form for that)
+    // any number; a mark that is none stays (a `let else`, since one of four cases is wanted: `?` has no form for that)
     pub(crate) fn number(&mut self) -> Result<u32, Fault>
-        ensures { Reads (a_number ∷ []) one self.old self.new result }
+        ensures reads { Reads (a_number ∷ []) one self.old self.new result }
+        ensures stays { OnErr result (self.new ≡ self.old) }
     {
         let mark = self.peek()?;
         let Token::Number(digits) = mark.token else {

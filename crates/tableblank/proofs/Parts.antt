@@ -37,31 +37,31 @@ module _ (r : Rows) (p : Passes r) (u : ℕ) where
       let s = passes_shape r p in
       (omega (arith, s.one_more), s.rising u h, ends_within, omega (arith, ends_within, s.alike))
 
+  targets_long : (targets : List ℕ) → targets ≡ slice_range r.targets (first r u) (first r (u + 1)) → length targets ≡ entries r u
+  targets_long targets t = ap length t ∙ part_length r.targets (first r u) (first r (u + 1)) ends_within
+
+  -- How many places a state has, by the part of the targets that is its own.
+  pub places_are : (targets : List ℕ) → targets ≡ slice_range r.targets (first r u) (first r (u + 1))
+      → (length targets ≡ length (row r u)) × (length targets ≤ 1024)
+  places_are targets t =
+      let e = targets_long targets t ∙ sym (row_length r u) in
+      (e, omega (arith, e, (passes_lawful r p).places_most u))
+
   module _ (targets costs : List ℕ) (t : targets ≡ slice_range r.targets (first r u) (first r (u + 1)))
       (s : costs ≡ slice_range r.costs (first r u) (first r (u + 1))) where
-    pub targets_long : length targets ≡ entries r u
-    targets_long = ap length t ∙ part_length r.targets (first r u) (first r (u + 1)) ends_within
-
     costs_long : length costs ≡ entries r u
     costs_long = ap length s ∙ part_length r.costs (first r u) (first r (u + 1)) (omega (arith, ends_within, (passes_shape r p).alike))
 
     pub none_there : (i : ℕ) → (length targets ≤ i) ⊎ (length costs ≤ i) → None ≡ slice_index_or (row r u) i None
-    none_there i (inl h) = sym (row_past r u i (omega (arith, targets_long)))
+    none_there i (inl h) = sym (row_past r u i (omega (arith, targets_long targets t)))
     none_there i (inr h) = sym (row_past r u i (omega (arith, costs_long)))
 
     -- what stands at i of both parts, the place that is asked for
     pub cut_there : (i place v c : ℕ) → v ≡ get_or targets i 0 → c ≡ get_or costs i 0 → i < length targets → i ≡ place
         → Some (v, c) ≡ slice_index_or (row r u) place None
     cut_there i place v c e f h same =
-        let k : i < entries r u = omega (arith, targets_long) in
+        let k : i < entries r u = omega (arith, targets_long targets t) in
         let to : v ≡ get_or r.targets (first r u + i) 0 = e ∙ ap (λ xs. get_or xs i 0) t ∙ part_at r.targets (first r u) (first r (u + 1)) i k in
         let cost : c ≡ get_or r.costs (first r u + i) 0 = f ∙ ap (λ xs. get_or xs i 0) s ∙ part_at r.costs (first r u) (first r (u + 1)) i k in
         let here = row_at r u i k in
         subst (λ (j : ℕ). Some (v, c) ≡ slice_index_or (row r u) j None) same cc
-
--- How many places a state has, by the part of the targets that is its own.
-pub places_are : (r : Rows) (p : Passes r) (u : ℕ) (targets : List ℕ) → targets ≡ slice_range r.targets (first r u) (first r (u + 1))
-    → (length targets ≡ length (row r u)) × (length targets ≤ 1024)
-places_are r p u targets t =
-    let e : length targets ≡ entries r u = ap length t ∙ part_length r.targets (first r u) (first r (u + 1)) (ends_within r p u) in
-    (e ∙ sym (row_length r u), omega (arith, e, row_length r u, (passes_lawful r p).places_most u))

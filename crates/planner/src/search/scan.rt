@@ -52,7 +52,7 @@ impl Search {
         (0..blank.states()).filter_map(|u| self.sum(blank, u)).min()
     }
 
-    // The least sum of the live states, by a queue of their cost ranks.
+    // The least sum of the live states, by a queue of their cost ranks. (The hint is for speed: work asks for it at every move.)
     #[inline(always)]
     pub(crate) fn least_queued<B: Blank>(&self, blank: &B, row: &mut [CostRank]) -> Option<u32>
         ensures { Inside (B.meaning blank.now) (search_state self.now)
